@@ -1,0 +1,4 @@
+pub mod Ring
+pub mod Sequence
+pub mod Polynomial
+pub mod Interpolation

@@ -1,0 +1,7 @@
+pub mod Question
+pub mod Code
+pub mod Codeword
+pub mod Erasure
+pub mod Repair
+pub mod Decoding
+pub mod Promise

@@ -1,0 +1,133 @@
+// The two fields: tables of powers and logarithms, and the operations on symbols.
+ghost use mathlib.Core.Path.{_≡_};
+ghost use Prim.Native.Nat.{_-_, _≤_, _<_};
+ghost use Rattle.field.specs.Field.{q, γ, plus, minus, times, power, inverse};
+ghost use Rattle.field.specs.Table.{Powers, Logs};
+
+mod logarithms;
+mod powers;
+
+use logarithms::LOGS_256;
+use powers::POWERS_256;
+
+// The twelve powers of 2 modulo 13.
+const POWERS_13: [u8; 12] = [1, 2, 4, 8, 3, 6, 12, 11, 9, 5, 10, 7];
+
+// q: how many elements the field has.
+pub fn order(field: u32) -> u32
+    ensures { λ r. ⌜ (r ≡ q field) × (13 ≤ r) × (r ≤ 256) ⌝ }
+{
+    if field == 0 { 13 } else { 256 }
+}
+
+// The table of powers modulo 13.
+fn power_table_13() -> [u8; 12]
+    ensures { λ r. ⌜ Powers 0 r ⌝ }
+{
+    POWERS_13
+}
+
+// The table of powers over bytes, to be lent to the operations of one call.
+pub fn power_table() -> [u8; 255]
+    ensures { λ r. ⌜ Powers 1 r ⌝ }
+{
+    POWERS_256
+}
+
+// The table of logarithms, to be lent likewise.
+pub fn log_table() -> [u8; 256]
+    ensures { λ r. ⌜ Logs r ⌝ }
+{
+    LOGS_256
+}
+
+// The power e of 2, read from the field's table.
+pub fn generator_power(field: u32, e: u32) -> u8
+    requires { ⌜ e < q field - 1 ⌝ }
+    ensures { λ r. ⌜ r ≡ power field γ e ⌝ }
+{
+    let i = e as usize;
+    if field == 0 {
+        let t = power_table_13();
+        return t[i];
+    }
+    let t = power_table();
+    t[i]
+}
+
+// a + b
+pub fn add(field: u32, a: u8, b: u8) -> u8
+    ensures { λ r. ⌜ r ≡ plus field a b ⌝ }
+{
+    if field == 0 {
+        return ((a as u32 + b as u32) % 13) as u8;
+    }
+    a ^ b
+}
+
+// a - b
+pub fn sub(field: u32, a: u8, b: u8) -> u8
+    ensures { λ r. ⌜ r ≡ minus field a b ⌝ }
+{
+    if field == 0 {
+        return ((a as u32 + (13 - b as u32 % 13)) % 13) as u8;
+    }
+    a ^ b
+}
+
+// a * b, over bytes by logarithms.
+pub fn mul(field: u32, a: u8, b: u8, powers: &[u8; 255], logs: &[u8; 256]) -> u8
+    requires { ⌜ Powers 1 (now powers) × Logs (now logs) ⌝ }
+    ensures { λ r. ⌜ r ≡ times field a b ⌝ }
+{
+    if field == 0 {
+        return ((a as u32 * b as u32) % 13) as u8;
+    }
+    if a == 0 {
+        return 0;
+    }
+    if b == 0 {
+        return 0;
+    }
+    let i = logs[a as usize] as usize;
+    let j = logs[b as usize] as usize;
+    powers[(i + j) % 255]
+}
+
+// a + c * b
+pub fn mul_add(field: u32, a: u8, c: u8, b: u8, powers: &[u8; 255], logs: &[u8; 256]) -> u8
+    requires { ⌜ Powers 1 (now powers) × Logs (now logs) ⌝ }
+    ensures { λ r. ⌜ r ≡ plus field a (times field c b) ⌝ }
+{
+    let p = mul(field, c, b, powers, logs);
+    add(field, a, p)
+}
+
+// a to the power e.
+pub fn power_of(field: u32, a: u8, e: u32, powers: &[u8; 255], logs: &[u8; 256]) -> u8
+    requires { ⌜ Powers 1 (now powers) × Logs (now logs) ⌝ }
+    ensures { λ r. ⌜ r ≡ power field a e ⌝ }
+{
+    let mut p: u8 = 1;
+    let mut i: u32 = 0;
+    while i < e {
+        p = mul(field, a, p, powers, logs);
+        i += 1;
+    }
+    p
+}
+
+// 1 / a, and 0 of 0; over bytes by logarithms.
+pub fn inverse_of(field: u32, a: u8, powers: &[u8; 255], logs: &[u8; 256]) -> u8
+    requires { ⌜ Powers 1 (now powers) × Logs (now logs) ⌝ }
+    ensures { λ r. ⌜ r ≡ inverse field a ⌝ }
+{
+    if field == 0 {
+        return power_of(field, a, 11, powers, logs);
+    }
+    if a == 0 {
+        return 0;
+    }
+    let i = logs[a as usize] as usize;
+    powers[(255 - i) % 255]
+}
