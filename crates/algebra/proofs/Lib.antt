@@ -2,3 +2,6 @@ pub mod Ring
 pub mod Sequence
 pub mod Polynomial
 pub mod Interpolation
+pub mod EvaluationCode
+pub mod Monomials
+pub mod Locality

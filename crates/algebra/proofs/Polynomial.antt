@@ -2,7 +2,8 @@
 --   divides          p(x) + a e(x) = p(a) + x e(x), e the quotient by X - a
 --   roots            as many different roots as coefficients: all coefficients are 0
 --   roots-counted    the same, with the roots counted over places
---   eval-diff, length-diff, eq-of-diff
+--   eval-diff, length-diff, length-diff-same, eq-of-diff
+--   pad              coefficients 0 up to a number of them: eval-pad, length-pad
 --   poly-*           polynomials are closed under sum, difference, multiple, shift and linear factor
 --   unique-coefs, unique    two polynomials that agree at as many points as they have coefficients
 use mathlib.Core.Path.{_≡_, refl, sym, ap, ap₂, _∙_}
@@ -69,6 +70,14 @@ module _ (R : Ring) where
   length-diff zero (c ∷ cs) (d ∷ ds) h l = absurd (not-suc-le-zero h)
   length-diff (suc n) (c ∷ cs) (d ∷ ds) h l = suc-le-suc (length-diff n cs ds (le-of-suc-le-suc h) (le-of-suc-le-suc l))
 
+  pub length-diff-same : (n : ℕ) (cs ds : List El) → length cs ≡ n → length ds ≡ n → length (diff R cs ds) ≡ n
+  unfolding diff
+  length-diff-same n [] [] h l = h
+  length-diff-same n [] (d ∷ ds) h l = absurd (omega arith)
+  length-diff-same n (c ∷ cs) [] h l = absurd (omega arith)
+  length-diff-same zero (c ∷ cs) (d ∷ ds) h l = absurd (omega arith)
+  length-diff-same (suc n) (c ∷ cs) (d ∷ ds) h l = ap suc (length-diff-same n cs ds (omega arith) (omega arith))
+
   spread : (c d x p s : El) → (c ⊖ d) ⊕ x ⊗ (p ⊖ s) ≡ (c ⊕ x ⊗ p) ⊖ (d ⊕ x ⊗ s)
   spread c d x p s = ap (λ n. (c ⊖ d) ⊕ n) (mul-sub R x p s) ∙ sym (sub-interchange R c (x ⊗ p) d (x ⊗ s))
 
@@ -107,6 +116,25 @@ module _ (R : Ring) where
   eval-scale k [] x = sym (mul-nil R k)
   eval-scale k (c ∷ cs) x =
       ap (λ n. k ⊗ c ⊕ x ⊗ n) (eval-scale k cs x) ∙ ap (λ n. k ⊗ c ⊕ n) (mul-left-comm R x k (eval R cs x)) ∙ sym (mul-add k c (x ⊗ eval R cs x))
+
+  -- coefficients 0 up to n of them
+  pub pad : ℕ → List El → List El
+  pad zero cs = cs
+  pad (suc n) [] = 𝟘 ∷ pad n []
+  pad (suc n) (c ∷ cs) = c ∷ pad n cs
+
+  pub length-pad : (n : ℕ) (cs : List El) → length cs ≤ n → length (pad n cs) ≡ n
+  unfolding pad
+  length-pad zero [] h = refl
+  length-pad zero (c ∷ cs) h = absurd (not-suc-le-zero h)
+  length-pad (suc n) [] h = ap suc (length-pad n [] zero-le)
+  length-pad (suc n) (c ∷ cs) h = ap suc (length-pad n cs (le-of-suc-le-suc h))
+
+  pub eval-pad : (n : ℕ) (cs : List El) (x : El) → eval R (pad n cs) x ≡ eval R cs x
+  unfolding pad eval
+  eval-pad zero cs x = refl
+  eval-pad (suc n) [] x = ap (λ y. 𝟘 ⊕ x ⊗ y) (eval-pad n [] x) ∙ none x
+  eval-pad (suc n) (c ∷ cs) x = ap (λ y. c ⊕ x ⊗ y) (eval-pad n cs x)
 
   pub poly-of : (cs : List El) → Poly R (length cs) (λ x. eval R cs x)
   poly-of cs = record { coefs = cs; few = le-refl (length cs); is = λ x. refl }

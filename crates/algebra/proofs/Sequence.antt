@@ -2,8 +2,10 @@
 --   so, and-left, and-right, and-both    tests that hold
 --   Same m n b, same?                    the test of equality, and what it says
 --   each-zip, each-intro, each-at, each-map, distinct-map
---   length-tabulate, at-tabulate, tabulate-is
---   every-at, every-intro, count-most, count-split, count-same
+--   map-each, each-of-map, at-map        lists made of a list
+--   lookup ms xs s                       the value of xs where ms has the key s; map-lookup
+--   length-tabulate, at-tabulate, tabulate-is, tabulate-same, each-tabulate
+--   every-at, every-intro, count-most, count-split, count-same, count-all
 --   picked pt t n                        the points of the places below n that pass a test, and how many
 use mathlib.Core.Path.{_≡_, refl, sym, ap, ap₂, _∙_, subst}
 use mathlib.Core.Logic.{_≢_}
@@ -13,7 +15,7 @@ use Prim.Native.Nat.{ℕ, zero, suc, _+_, _≤_, _<_, zero-le}
 use native.Mathlib.Nat.{le-refl, add-zero, add-suc, suc-add, zero-add, not-suc-le-zero, le-of-suc-le-suc}
 use native.Mathlib.Decide.{ℕ-discrete}
 use native.Mathlib.Omega.{arith}
-use lib.ListN.{length, getD}
+use lib.ListN.{length, getD, drop}
 use lib.Seq.{ext-getD}
 use lib.Dec.{T, eqb, eqb→eq, eqb-refl, ltb, ltb→lt, lt→ltb}
 use Rattle.algebra.specs.Sequence.{at, tabulate-from, tabulate, count, every, all-below, Each, Distinct, In, here, there}
@@ -79,6 +81,57 @@ module _ {A B : Type 0} (f : A → B) where
     distinct-map xs (λ y z i j. h y z (there i) (there j)) (d .1),
   )
 
+module _ {A B : Type 0} (f g : A → B) where
+  pub map-each : (xs : List A) → Each (λ x. f x ≡ g x) xs → map f xs ≡ map g xs
+  map-each [] e = refl
+  map-each (x ∷ xs) e = ap₂ {B = List B} _∷_ (e .0) (map-each xs (e .1))
+
+  pub each-of-map : (xs : List A) → map f xs ≡ map g xs → Each (λ x. f x ≡ g x) xs
+  each-of-map [] e = tt
+  each-of-map (x ∷ xs) e = (ap (λ l. getD l 0 (f x)) e, each-of-map xs (ap (λ l. drop 1 l) e))
+
+pub at-map : (f : ℕ → ℕ) (xs : List ℕ) (i : ℕ) → i < length xs → at (map f xs) i ≡ f (at xs i)
+at-map f [] i h = absurd (not-suc-le-zero h)
+at-map f (x ∷ xs) zero h = refl
+at-map f (x ∷ xs) (suc i) h = at-map f xs i (le-of-suc-le-suc h)
+
+-- the value that goes with a key
+unfoldable pub lookup : (keys values : List ℕ) → ℕ → ℕ
+lookup [] xs s = 0
+lookup (m ∷ ms) [] s = 0
+lookup (m ∷ ms) (x ∷ xs) s = cond (eqb m s) x (lookup ms xs s)
+
+pub lookup-below : (q : ℕ) (ms xs : List ℕ) (s : ℕ) → 0 < q → T (all-below q xs) → lookup ms xs s < q
+unfolding lookup all-below
+lookup-below q [] xs s z t = z
+lookup-below q (m ∷ ms) [] s z t = z
+lookup-below q (m ∷ ms) (x ∷ xs) s z t =
+    go (eqb m s) (ltb→lt x q (and-left (ltb x q) (all-below q xs) t)) (lookup-below q ms xs s z (and-right (ltb x q) (all-below q xs) t))
+  where
+    go : {y : ℕ} (b : Bool) → x < q → y < q → cond b x y < q
+    go true h l = h
+    go false h l = l
+
+lookup-skip : (m x : ℕ) (ms xs ks : List ℕ) → Each (λ k. k ≢ m) ks → map (lookup (m ∷ ms) (x ∷ xs)) ks ≡ map (lookup ms xs) ks
+unfolding lookup
+lookup-skip m x ms xs [] e = refl
+lookup-skip m x ms xs (k ∷ ks) e = ap₂ {B = List ℕ} _∷_ (go (eqb m k) (same? m k)) (lookup-skip m x ms xs ks (e .1))
+  where
+    go : (b : Bool) → Same m k b → cond b x (lookup ms xs k) ≡ lookup ms xs k
+    go true (same p) = absurd (e .0 (sym p))
+    go false n = refl
+
+pub map-lookup : (ms xs : List ℕ) → Distinct ms → length ms ≡ length xs → map (lookup ms xs) ms ≡ xs
+map-lookup [] [] d h = refl
+map-lookup [] (x ∷ xs) d h = absurd (omega arith)
+map-lookup (m ∷ ms) [] d h = absurd (omega arith)
+map-lookup (m ∷ ms) (x ∷ xs) d h =
+    ap₂ {B = List ℕ} _∷_ (unfold lookup in go (lookup ms xs m) (eqb m m) (same? m m)) (lookup-skip m x ms xs ms (d .0) ∙ map-lookup ms xs (d .1) (omega arith))
+  where
+    go : (y : ℕ) (b : Bool) → Same m m b → cond b x y ≡ x
+    go y true p = refl
+    go y false (other n) = absurd (n refl)
+
 -- lists made of a function
 module _ {A : Type 0} (f : ℕ → A) where
   length-from : (l i : ℕ) → length (tabulate-from f l i) ≡ l
@@ -105,6 +158,16 @@ module _ {A : Type 0} (f : ℕ → A) where
       ext-getD d xs (tabulate f n) (l ∙ sym (length-tabulate n))
       (λ i b. let b′ : i < n = omega arith in h i b′ ∙ sym (at-tabulate d n i b′))
 
+  each-from : (P : A → Type 0) (l i : ℕ) → Each P (tabulate-from f l i) → (k : ℕ) → k < l → P (f (i + k))
+  unfolding tabulate-from
+  each-from P zero i e k h = absurd (not-suc-le-zero h)
+  each-from P (suc l) i e zero h = rw add-zero (e .0)
+  each-from P (suc l) i e (suc k) h = rw (add-suc, ← suc-add) (each-from P l (suc i) (e .1) k (le-of-suc-le-suc h))
+
+  pub each-tabulate : (P : A → Type 0) (n : ℕ) → Each P (tabulate f n) → (i : ℕ) → i < n → P (f i)
+  unfolding tabulate
+  each-tabulate P n e i h = rw zero-add at (each-from P n 0 e i h)
+
 pub tabulate-same : {A : Type 0} (d : A) (f g : ℕ → A) (n : ℕ) → ((i : ℕ) → i < n → f i ≡ g i) → tabulate f n ≡ tabulate g n
 tabulate-same d f g n h = tabulate-is g d n (tabulate f n) (length-tabulate f n) (λ i b. at-tabulate f d n i b ∙ h i b)
 
@@ -123,6 +186,9 @@ module _ (t : ℕ → Bool) where
   unfolding every
   every-intro zero h = tt
   every-intro (suc n) h = and-both (t n) (every t n) (h n (le-refl (suc n))) (every-intro n (λ i b. h i (omega arith)))
+
+  pub every-not : (n i : ℕ) → i < n → t i ≡ false → every t n ≡ false
+  every-not n i h e = no-false (every t n) (λ a. rw e at (every-at n a i h))
 
   -- how many pass
   pub count-most : (n : ℕ) → count t n ≤ n
@@ -151,6 +217,11 @@ count-same s t zero h = refl
 count-same s t (suc n) h =
     ap₂ (λ b m. cond b 1 0 + m) (h n (le-refl (suc n))) (count-same s t n (λ i b. h i (omega arith)))
 
+pub count-all : (n : ℕ) → count (λ i. true) n ≡ n
+unfolding count
+count-all zero = refl
+count-all (suc n) = let e = count-all n in omega arith
+
 -- entries below a bound
 pub all-below-at : (q : ℕ) (xs : List ℕ) → T (all-below q xs) → (i : ℕ) → i < length xs → at xs i < q
 unfolding all-below
@@ -163,6 +234,9 @@ unfolding all-below
 all-below-intro q [] h = tt
 all-below-intro q (x ∷ xs) h =
     and-both (ltb x q) (all-below q xs) (lt→ltb x q (h 0 (omega arith))) (all-below-intro q xs (λ i b. h (suc i) (omega arith)))
+
+pub all-below-not : (q : ℕ) (xs : List ℕ) (i : ℕ) → i < length xs → q ≤ at xs i → all-below q xs ≡ false
+all-below-not q xs i h l = no-false (all-below q xs) (λ t. absurd (omega (arith, all-below-at q xs t i h)))
 
 -- the points of the places below n that pass a test
 module _ {A : Type 0} (pt : ℕ → A) (t : ℕ → Bool) where

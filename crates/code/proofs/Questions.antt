@@ -12,7 +12,7 @@ use lib.Dec.{leb, eqb}
 use borrow.Author.Tests.{le-leb, lt-leb, eq-eqb, ne-eqb}
 use Rattle.field.specs.Field.{q}
 use Rattle.code.specs.Question.{ask, or-ask}
-use Rattle.code.specs.Code.{tolerance, size, groups, field-known, r-fits, n-fits, k-fits}
+use Rattle.code.specs.Code.{size, groups, field-known, r-fits, n-fits, k-fits}
 use Rattle.code.specs.declared.Code.{Code}
 
 pub ask-no : {b : Bool} (n rest : ℕ) → b ≡ false → n ≡ ask b n rest
@@ -42,10 +42,6 @@ pub and-yes : (a b : Bool) → a ≡ true → b ≡ true → a && b ≡ true
 and-yes a b e p = rw (e, p) refl
 
 module _ (c : Code) where
-  pub size-is : size c ≡ c .r + 1
-  unfolding size tolerance
-  size-is = refl
-
   -- 2
   pub r-small : c .r < 1 → r-fits c ≡ false
   unfolding r-fits

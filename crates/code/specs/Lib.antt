@@ -1,4 +1,5 @@
 pub mod Question
+pub mod Answer
 pub mod Code
 pub mod Codeword
 pub mod Erasure

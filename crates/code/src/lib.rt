@@ -1,9 +1,14 @@
-// The code's four numbers, and questions 1 to 4.
+// The code's four numbers, questions 1 to 4, points, tests of symbols, and the answer of a call.
 ghost use mathlib.Core.Path.{_≡_};
-ghost use Prim.Native.Nat.{_-_, _≤_};
+ghost use mathlib.Core.Bool.{_||_};
+ghost use Prim.Native.Nat.{_-_, _≤_, _<_};
+ghost use lib.Dec.{ltb, eqb};
+ghost use lib.ListN.{length};
+ghost use Rattle.algebra.specs.Sequence.{all-below};
 ghost use Rattle.field.specs.Field.{q};
 ghost use Rattle.code.specs.Question.{ask};
-ghost use Rattle.code.specs.Code.{n-fits, k-fits, code-refusal};
+ghost use Rattle.code.specs.Code.{n-fits, k-fits, code-refusal, point};
+ghost use Rattle.code.specs.Erasure.{kept-below};
 
 // The field, the locality r, the length n and the dimension k.
 pub struct Code {
@@ -11,6 +16,12 @@ pub struct Code {
     pub r: u32,
     pub n: u32,
     pub k: u32,
+}
+
+// A refusal number, and a value that is 0 on a refusal.
+pub struct Answer {
+    pub refusal: u32,
+    pub value: u32,
 }
 
 // The refusal of questions 1 to 4, or 0.
@@ -60,4 +71,56 @@ fn length_refusal(code: Code, most: u32) -> u32
         return 4;
     }
     0
+}
+
+// The evaluation point of a slot.
+pub fn point_of(code: Code, slot: u32) -> u8
+    requires { ⌜ (code-refusal code ≡ 0) × (slot < code .n) ⌝ }
+    ensures { λ x. ⌜ x ≡ point code slot ⌝ }
+{
+    let field = code.field;
+    let size = code.r + 1;
+    let width = (field::order(field) - 1) / size;
+    field::generator_power(field, slot / size + slot % size * width)
+}
+
+// Whether every entry is below most.
+pub fn all_below(entries: &[u8], most: u32) -> bool
+    ensures { λ x. ⌜ x ≡ all-below most (now (entries .entry)) ⌝ }
+{
+    let mut i = entries.len();
+    while i > 0 {
+        i -= 1;
+        if entries[i] as u32 >= most {
+            return false;
+        }
+    }
+    true
+}
+
+// Whether a symbol is lost, or below most.
+fn symbol_fits(mark: u8, symbol: u8, most: u32) -> bool
+    ensures { λ x. ⌜ x ≡ (eqb mark 1 || ltb symbol most) ⌝ }
+{
+    if mark == 1 {
+        return true;
+    }
+    (symbol as u32) < most
+}
+
+// Whether every kept symbol is below q.
+pub fn kept_below(code: Code, word: &[u8], marks: &[u8]) -> bool
+    requires { ⌜ (length (now word) ≡ code .n) × (length (now marks) ≡ code .n) ⌝ }
+    ensures { λ x. ⌜ x ≡ kept-below code (now (word .entry)) (now (marks .entry)) ⌝ }
+{
+    let n = code.n as usize;
+    let most = field::order(code.field);
+    let mut p: usize = 0;
+    while p < n {
+        if !symbol_fits(marks[p], word[p], most) {
+            return false;
+        }
+        p += 1;
+    }
+    true
 }

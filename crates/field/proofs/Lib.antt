@@ -6,3 +6,4 @@ pub mod Generator
 pub mod Elem
 pub mod Tables
 pub mod Operations
+pub mod Products

@@ -2,6 +2,8 @@
 ghost use mathlib.Core.Path.{_≡_};
 ghost use Prim.Native.Nat.{_-_, _≤_, _<_};
 ghost use Rattle.field.specs.Field.{q, γ, plus, minus, times, power, inverse};
+ghost use lib.ListN.{length, take};
+ghost use Rattle.field.specs.Polynomial.{dotted};
 ghost use Rattle.field.specs.Table.{Powers, Logs};
 
 mod logarithms;
@@ -130,4 +132,18 @@ pub fn inverse_of(field: u32, a: u8, powers: &[u8; 255], logs: &[u8; 256]) -> u8
     }
     let i = logs[a as usize] as usize;
     powers[(255 - i) % 255]
+}
+
+// The sum of a[i] * b[i] over the first n entries.
+pub fn dot(field: u32, a: &[u8], b: &[u8], n: usize, powers: &[u8; 255], logs: &[u8; 256]) -> u8
+    requires { ⌜ Powers 1 (now powers) × Logs (now logs) × (n ≤ length (now a)) × (n ≤ length (now b)) ⌝ }
+    ensures { λ r. ⌜ r ≡ dotted field (take n (now (a .entry))) (take n (now (b .entry))) ⌝ }
+{
+    let mut sum: u8 = 0;
+    let mut i = n;
+    while i > 0 {
+        i -= 1;
+        sum = mul_add(field, sum, a[i], b[i], powers, logs);
+    }
+    sum
 }
