@@ -5,3 +5,4 @@ pub mod Interpolation
 pub mod EvaluationCode
 pub mod Monomials
 pub mod Locality
+pub mod Filling

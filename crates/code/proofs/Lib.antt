@@ -1,4 +1,5 @@
 pub mod Questions
+pub mod Answers
 pub mod Accepted
 pub mod Groups
 pub mod Points

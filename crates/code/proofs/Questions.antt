@@ -1,6 +1,6 @@
 -- Questions and their answers: how a refusal follows from the tests before it. Assumes nothing.
 --   ask-no, ask-yes            one question
---   or-ask-stop, or-ask-on     a refusal, or the questions after it
+--   or-ask-stop, or-ask-on, or-ask-passed    a refusal, or the questions after it
 --   and-no-left, and-no-right, and-yes
 --   r-*, n-*, k-*              the answers to questions 2 to 4
 use mathlib.Core.Path.{_≡_, refl, sym, ap, _∙_}
@@ -30,6 +30,11 @@ or-ask-stop a b n = rw (ne-eqb a 0 n) refl
 pub or-ask-on : (a b x : ℕ) → a ≡ 0 → x ≡ b → x ≡ or-ask a b
 unfolding or-ask
 or-ask-on a b x e p = rw (eq-eqb a 0 e) p
+
+pub or-ask-passed : (a b : ℕ) → or-ask a b ≡ 0 → (a ≡ 0) × (b ≡ 0)
+unfolding or-ask
+or-ask-passed zero b e = (refl, e)
+or-ask-passed (suc a) b e = absurd (omega (arith, rw (ne-eqb (suc a) 0 (λ z. omega arith)) at e))
 
 pub and-no-left : (a b : Bool) → a ≡ false → a && b ≡ false
 and-no-left a b e = rw e refl

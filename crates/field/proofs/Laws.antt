@@ -1,7 +1,7 @@
 -- The laws of a field of the code on numbers below q, and both fields have them. Assumes nothing.
 use mathlib.Core.Path.{_≡_, ap, _∙_}
-use Prim.Native.Nat.{ℕ, zero, suc, _+_, _*_, _-_, _%_, _<_}
-use lib.Dec.{lit<}
+use Prim.Native.Nat.{ℕ, zero, suc, _+_, _*_, _-_, _%_, _≤_, _<_}
+use lib.Dec.{lit<, lit≤}
 use Rattle.field.specs.Field.{q, plus, minus, times, xor-from}
 use Rattle.field.proofs.Xor.{xor-comm, xor-assoc, xor-self, xor-below, xor-zero}
 use Rattle.field.proofs.Byte
@@ -53,3 +53,8 @@ laws (suc f) =
       times-one = λ a h. Byte.times-comm a 1 h (lit< tt) ∙ Byte.one-times a h;
       times-plus = λ a b c h l k. Byte.times-right 8 a b c h;
     }
+
+pub q-most : (f : ℕ) → q f ≤ 256
+unfolding q
+q-most zero = lit≤ tt
+q-most (suc f) = lit≤ tt

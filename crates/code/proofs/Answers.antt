@@ -1,0 +1,27 @@
+-- How an answer follows from its refusal. Assumes nothing.
+--   fills-no, fills-yes        a call that fills a buffer refuses, or fills it
+--   answers-no, answers-yes    a call that answers a value
+use mathlib.Core.Path.{_≡_, refl, sym, _∙_}
+use mathlib.Core.Logic.{_≢_}
+use mathlib.Core.List.{List}
+use Prim.Native.Nat.{ℕ, zero, suc}
+use borrow.Author.Tests.{eq-eqb, ne-eqb}
+use Rattle.code.specs.Answer.{Answers, Fills}
+use Rattle.code.specs.declared.Answer.{Answer}
+
+pub fills-no : (n : ℕ) (bs : List ℕ) (x : ℕ) (a z : List ℕ) → x ≡ n → x ≢ 0 → z ≡ a → Fills n bs x a z
+unfolding Fills
+fills-no zero bs x a z e h p = absurd (h e)
+fills-no (suc n) bs x a z e h p = (e, p)
+
+pub fills-yes : (n : ℕ) (bs : List ℕ) (x : ℕ) (a z : List ℕ) → n ≡ 0 → x ≡ 0 → z ≡ bs → Fills n bs x a z
+unfolding Fills
+fills-yes n bs x a z e h p = rw e (h, p)
+
+pub answers-no : (n v : ℕ) (x : Answer) → x .refusal ≡ n → x .refusal ≢ 0 → x .value ≡ 0 → Answers n v x
+unfolding Answers
+answers-no n v x e h p = rw (ne-eqb n 0 (λ z. h (e ∙ z))) (e, p)
+
+pub answers-yes : (n v : ℕ) (x : Answer) → n ≡ 0 → x .refusal ≡ 0 → x .value ≡ v → Answers n v x
+unfolding Answers
+answers-yes n v x e h p = rw e (h, p)
