@@ -6,7 +6,7 @@
 --   on-group           the terms where x to the power g is y; on-group-poly has r coefficients
 use mathlib.Core.Path.{_≡_, refl, sym, ap, ap₂, _∙_}
 use mathlib.Core.List.{List, [], _∷_}
-use Prim.Native.Nat.{ℕ, zero, suc, _+_, _*_, _-_, _/_, _%_, _≤_, _<_, zero-le}
+use Prim.Native.Nat.{ℕ, zero, suc, _+_, _*_, _/_, _%_, _≤_, _<_, zero-le}
 use native.Mathlib.Nat.{div-add-mod', mod-lt, mul-comm as mul-comm-ℕ, le-div-iff-mul-le, div-mul-le-self, mul-le-mul-left, mul-add as mul-add-ℕ}
 use native.Mathlib.Omega.{arith}
 use lib.Arith.{digits-div, digits-mod}

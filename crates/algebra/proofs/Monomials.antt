@@ -29,7 +29,8 @@ module _ (R : Ring) where
   eval-tabulate-nil : (x : El) (l i : ℕ) → eval R (tabulate-from (λ j. 𝟘) l i) x ≡ 𝟘
   unfolding eval tabulate-from
   eval-tabulate-nil x zero i = refl
-  eval-tabulate-nil x (suc l) i = nil-add R (x ⊗ eval R (tabulate-from (λ j. 𝟘) l (suc i)) x) ∙ ap (λ y. x ⊗ y) (eval-tabulate-nil x l (suc i)) ∙ mul-nil R x
+  eval-tabulate-nil x (suc l) i =
+      nil-add R (x ⊗ eval R (tabulate-from (λ j. 𝟘) l (suc i)) x) ∙ ap (λ y. x ⊗ y) (eval-tabulate-nil x l (suc i)) ∙ mul-nil R x
 
   eval-tabulate-add : (f g : ℕ → El) (x : El) (l i : ℕ)
       → eval R (tabulate-from (λ j. f j ⊕ g j) l i) x ≡ eval R (tabulate-from f l i) x ⊕ eval R (tabulate-from g l i) x
@@ -60,7 +61,8 @@ module _ (R : Ring) where
   eval-lone a s x (suc l) i h k =
       go (eqb a i) (same? a i) (eval-lone-past a s x l (suc i)) (λ b. eval-lone a s x l (suc i) b (omega arith))
     where
-      go : {y : El} (b : Bool) → Same a i b → (a < suc i → y ≡ 𝟘) → (suc i ≤ a → y ≡ s ⊗ pow R x (a - suc i)) → cond b s 𝟘 ⊕ x ⊗ y ≡ s ⊗ pow R x (a - i)
+      go : {y : El} (b : Bool) → Same a i b → (a < suc i → y ≡ 𝟘) → (suc i ≤ a → y ≡ s ⊗ pow R x (a - suc i))
+          → cond b s 𝟘 ⊕ x ⊗ y ≡ s ⊗ pow R x (a - i)
       go true (same e) past later =
           let z : a - i ≡ 0 = omega arith in
           ap (λ w. s ⊕ x ⊗ w) (past (omega arith)) ∙ ap (λ w. s ⊕ w) (mul-nil R x) ∙ add-nil s ∙ sym (ap (λ d. s ⊗ pow R x d) z ∙ mul-unit s)

@@ -1,7 +1,7 @@
 -- Facts of lists and ranges. Assumes nothing.
 --   so, and-left, and-right, and-both    tests that hold
 --   Same m n b, same?                    the test of equality, and what it says
---   each-zip, each-intro, each-at, each-map, distinct-map
+--   each-zip, each-intro, each-at, each-index, each-map, distinct-map
 --   map-each, each-of-map, at-map        lists made of a list
 --   lookup ms xs s                       the value of xs where ms has the key s; map-lookup
 --   length-tabulate, at-tabulate, tabulate-is, tabulate-same, each-tabulate
@@ -68,6 +68,11 @@ module _ {A : Type 0} where
   pub each-at : (P : A → Type 0) {xs : List A} {x : A} → Each P xs → In x xs → P x
   each-at P e here = e .0
   each-at P e (there i) = each-at P (e .1) i
+
+pub each-index : (P : ℕ → Type 0) (xs : List ℕ) → Each P xs → (i : ℕ) → i < length xs → P (at xs i)
+each-index P [] e i h = absurd (not-suc-le-zero h)
+each-index P (x ∷ xs) e zero h = e .0
+each-index P (x ∷ xs) e (suc i) h = each-index P xs (e .1) i (le-of-suc-le-suc h)
 
 module _ {A B : Type 0} (f : A → B) where
   pub each-map : (P : B → Type 0) (xs : List A) → Each (λ x. P (f x)) xs → Each P (map f xs)

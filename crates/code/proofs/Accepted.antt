@@ -1,13 +1,15 @@
 -- What questions 1 to 4 say of an accepted code, as facts of its numbers. Assumes nothing.
 --   Good c    these facts
 --   good      an accepted code has them
+--   n-byte    n is at most 255
 use mathlib.Core.Path.{_≡_}
-use mathlib.Core.Bool.{Bool, true, false, cond, _&&_}
-use Prim.Native.Nat.{ℕ, suc, _*_, _-_, _%_, _≤_}
+use mathlib.Core.Bool.{Bool, true, false, _&&_}
+use Prim.Native.Nat.{ℕ, zero, suc, _*_, _-_, _%_, _≤_}
 use native.Mathlib.Omega.{arith}
-use lib.Dec.{T, leb, eqb, eqb→eq, leb→le}
+use lib.Dec.{T, leb, eqb, eqb→eq, leb→le, lit≤}
 use Rattle.algebra.proofs.Sequence.{and-left, and-right}
 use Rattle.field.specs.Field.{q}
+use Rattle.field.proofs.Laws.{q-most}
 use Rattle.code.specs.Question.{ask}
 use Rattle.code.specs.Code.{size, groups, field-known, r-fits, n-fits, k-fits, code-refusal}
 use Rattle.code.specs.declared.Code.{Code}
@@ -58,3 +60,7 @@ good c e =
       k-least = leb→le 1 (c .k) (and-left k₁ k₂ (t₄ .0));
       k-most = leb→le (c .k) (c .r * groups c) (and-right k₁ k₂ (t₄ .0));
     }
+
+-- field sizes, and lengths that fit a byte
+pub n-byte : (c : Code) → Good c → c .n ≤ 255
+n-byte c G = omega (arith, G .n-most, q-most (c .field))

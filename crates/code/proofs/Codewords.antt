@@ -4,15 +4,14 @@
 --   length-encoded, at-encoded, symbols-below
 --   symbol-of c xs p         == slot p's symbol as an element: symbol-of-is
 --   symbol-on-group          on a group it is a polynomial with r coefficients
-use mathlib.Core.Path.{_≡_, refl, sym, ap, ap₂, _∙_}
+use mathlib.Core.Path.{_≡_, refl, ap, ap₂, _∙_}
 use mathlib.Core.Bool.{true, _&&_}
 use mathlib.Core.List.{List, [], _∷_}
-use Prim.Native.Nat.{ℕ, suc, _+_, _≤_, _<_}
+use Prim.Native.Nat.{ℕ, suc, _<_}
 use native.Mathlib.Omega.{arith}
 use lib.Dec.{T, eqb, eqb→eq, eqb-refl, ltb, ltb→lt}
 use lib.ListN.{length}
-use Rattle.algebra.specs.Ring.{pow}
-use Rattle.algebra.specs.Sequence.{at, tabulate, all-below}
+use Rattle.algebra.specs.Sequence.{at, all-below}
 use Rattle.algebra.proofs.Sequence.{so, yes-true, and-left, and-right, and-both, length-tabulate, at-tabulate, all-below-intro}
 use Rattle.algebra.proofs.Monomials.{terms}
 use Rattle.algebra.proofs.Locality.{raised, on-group, on-group-is}

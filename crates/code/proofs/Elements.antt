@@ -6,7 +6,6 @@ use mathlib.Core.Path.{_≡_, refl, sym, ap, ap₂, _∙_}
 use mathlib.Core.List.{List, [], _∷_, map}
 use Prim.Native.Nat.{ℕ}
 use lib.Dec.{T, ltb, ltb→lt, lt→ltb}
-use lib.ListN.{length, length-map}
 use Rattle.algebra.specs.Sequence.{all-below}
 use Rattle.algebra.specs.Polynomial.{eval}
 use Rattle.algebra.proofs.Sequence.{and-left, and-right, and-both}

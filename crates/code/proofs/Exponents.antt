@@ -1,7 +1,7 @@
 -- The exponents of message symbols: they differ, and the largest is k + ⌈k/r⌉ - 2. Assumes nothing.
 --   exponent-is, exponent-injective, exponent-most, exponent-last
 --   ceiling-is          ⌈k/r⌉ is (k - 1) / r + 1
---   room                k + ⌈k/r⌉ is at most n
+--   room, k-below       k + ⌈k/r⌉ is at most n, so k is below n
 --   exponents-are       Exponents-are of specs/Promise.antt
 use mathlib.Core.Path.{_≡_, ap, _∙_}
 use Prim.Native.Nat.{ℕ, suc, _+_, _*_, _-_, _/_, _≤_, _<_}
@@ -14,7 +14,7 @@ use Rattle.code.specs.Erasure.{guarantee}
 use Rattle.code.specs.Promise.{Exponents-are}
 use Rattle.code.specs.declared.Code.{Code}
 use Rattle.code.proofs.Accepted.{Good, good}
-use Rattle.code.proofs.Groups.{size-is, tolerance-is, groups-size}
+use Rattle.code.proofs.Groups.{size-is, groups-size}
 
 pub exponent-is : (c : Code) (m : ℕ) → exponent c m ≡ m + tolerance c * (m / c .r)
 unfolding exponent raised size
@@ -52,6 +52,9 @@ module _ (c : Code) (G : Good c) where
   room =
       let l : (c .k - 1) / c .r < groups c = div-lt-iff-lt-mul {k = c .r} {x = c .k - 1} {y = groups c} (G .r-least) .1 (omega (arith, G .k-least, G .k-most)) in
       omega (arith, ceiling-is, G .k-most, groups-size c G, ap (λ n. groups c * n) (size-is c))
+
+  pub k-below : c .k < c .n
+  k-below = omega (arith, room, ceiling-is)
 
   pub guarantee-is : guarantee c + (c .k + ceiling (c .k) (c .r)) ≡ c .n + 1
   unfolding guarantee tolerance

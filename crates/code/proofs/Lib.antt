@@ -4,6 +4,11 @@ pub mod Accepted
 pub mod Groups
 pub mod Points
 pub mod Exponents
-pub mod Elements
 pub mod Mates
+pub mod Elements
 pub mod Codewords
+pub mod Distance
+pub mod Weights
+pub mod Repairing
+pub mod Promises
+pub mod Cases

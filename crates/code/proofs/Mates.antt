@@ -1,6 +1,8 @@
 -- A slot's mates: r of them, all different, in the slot's group, below n and not the slot. Assumes nothing.
---   length-mates, mates-distinct, mates-are
+--   Mate c p m                   == m is in the group of p, below n, and not p
+--   length-mates, mates-distinct, mates-are, mate-is, mate-at
 --   mates-before, mates-after    mate i is member i of the group, or i + 1 from the slot on
+--   length-symbols, at-symbols   a word's symbols at some slots
 use mathlib.Core.Path.{_≡_, refl, sym, ap, _∙_}
 use mathlib.Core.Logic.{_≢_}
 use mathlib.Core.Bool.{Bool, true, false, cond}
@@ -9,14 +11,14 @@ use Prim.Native.Nat.{ℕ, zero, suc, _+_, _≤_, _<_}
 use native.Mathlib.Nat.{add-zero, add-suc, suc-add, zero-add, not-suc-le-zero, le-of-suc-le-suc}
 use native.Mathlib.Omega.{arith}
 use lib.Dec.{eqb}
-use lib.ListN.{length}
+use lib.ListN.{length, length-map}
 use Rattle.algebra.specs.Sequence.{at, Each, Distinct, In}
-use Rattle.algebra.proofs.Sequence.{Same, same, other, same?, each-at}
+use Rattle.algebra.proofs.Sequence.{Same, same, other, same?, each-at, each-index, at-map}
 use Rattle.code.specs.Code.{size, group, member, slot-at}
-use Rattle.code.specs.Repair.{mates-from, mates}
+use Rattle.code.specs.Repair.{mates-from, mates, symbols-of}
 use Rattle.code.specs.declared.Code.{Code}
 use Rattle.code.proofs.Accepted.{Good}
-use Rattle.code.proofs.Groups.{size-is, member-below, group-below, slot-below, slot-group-member, group-slot-at, member-slot-at, slot-at-injective}
+use Rattle.code.proofs.Groups.{size-is, member-below, group-below, slot-below, group-slot-at, member-slot-at, slot-at-injective}
 
 module _ (c : Code) (j o : ℕ) where
   each-from : (P : ℕ → Type 0) (l i : ℕ) → ((m : ℕ) → i ≤ m → m < i + l → m ≢ o → P (slot-at c j m)) → Each P (mates-from c l i j o)
@@ -32,7 +34,8 @@ module _ (c : Code) (j o : ℕ) where
   unfolding mates-from
   distinct-from zero i = tt
   distinct-from (suc l) i =
-      go (eqb i o) (mates-from c l (suc i) j o) (each-from (λ m. m ≢ slot-at c j i) l (suc i) (λ m a b n e. absurd (later m a (slot-at-injective c j m i e)))) (distinct-from l (suc i))
+      go (eqb i o) (mates-from c l (suc i) j o)
+      (each-from (λ m. m ≢ slot-at c j i) l (suc i) (λ m a b n e. later m a (slot-at-injective c j m i e))) (distinct-from l (suc i))
     where
       later : (m : ℕ) → suc i ≤ m → m ≢ i
       later m a e = omega arith
@@ -72,7 +75,8 @@ module _ (c : Code) (j o : ℕ) where
   at-clear (suc l) i (suc k) h n =
       go (eqb i o) (same? i o) (mates-from c l (suc i) j o) (at-clear l (suc i) k (le-of-suc-le-suc h) (λ x a b. n x (omega arith) (omega arith)))
     where
-      go : (b : Bool) → Same i o b → (ms : List ℕ) → at ms k ≡ slot-at c j (suc i + k) → at (cond b ms (slot-at c j i ∷ ms)) (suc k) ≡ slot-at c j (i + suc k)
+      go : (b : Bool) → Same i o b → (ms : List ℕ) → at ms k ≡ slot-at c j (suc i + k)
+          → at (cond b ms (slot-at c j i ∷ ms)) (suc k) ≡ slot-at c j (i + suc k)
       go true (same e) ms p = absurd (n i (omega arith) (omega arith) e)
       go false e ms p = p ∙ ap (λ m. slot-at c j m) (suc-add i k ∙ sym (add-suc i k))
 
@@ -89,8 +93,8 @@ module _ (c : Code) (j o : ℕ) where
       go (eqb i o) (same? i o) (mates-from c l (suc i) j o) (λ z. at-clear l (suc i) (suc k) (omega arith) (λ x d e f. omega arith))
       (λ z. at-from l (suc i) k (omega arith) z (omega arith))
     where
-      go : (b : Bool) → Same i o b → (ms : List ℕ) → (i ≡ o → at ms (suc k) ≡ slot-at c j (suc i + suc k)) → (suc i ≤ o → at ms k ≡ slot-at c j (suc i + suc k))
-          → at (cond b ms (slot-at c j i ∷ ms)) (suc k) ≡ slot-at c j (i + suc (suc k))
+      go : (b : Bool) → Same i o b → (ms : List ℕ) → (i ≡ o → at ms (suc k) ≡ slot-at c j (suc i + suc k))
+          → (suc i ≤ o → at ms k ≡ slot-at c j (suc i + suc k)) → at (cond b ms (slot-at c j i ∷ ms)) (suc k) ≡ slot-at c j (i + suc (suc k))
       go true (same e) ms p s = p e ∙ ap (λ m. slot-at c j m) (suc-add i (suc k) ∙ sym (add-suc i (suc k)))
       go false (other e) ms p s = s (omega arith) ∙ ap (λ m. slot-at c j m) (suc-add i (suc k) ∙ sym (add-suc i (suc k)))
 
@@ -136,3 +140,15 @@ module _ (c : Code) (p : ℕ) where
   mates-after i h l =
       at-from c (group c p) (member c p) (size c) 0 i (omega (arith, size-is c)) (omega arith) (omega arith)
       ∙ ap (λ m. slot-at c (group c p) m) (zero-add (suc i))
+
+  pub mate-at : Good c → p < c .n → (i : ℕ) → i < c .r → Mate c p (at (mates c p) i)
+  mate-at G h i l = each-index (Mate c p) (mates c p) (mates-are G h) i (omega (arith, length-mates))
+
+-- a word's symbols at some slots
+pub length-symbols : (ws ps : List ℕ) → length (symbols-of ws ps) ≡ length ps
+unfolding symbols-of
+length-symbols ws ps = length-map ps (at ws)
+
+pub at-symbols : (ws ps : List ℕ) (i : ℕ) → i < length ps → at (symbols-of ws ps) i ≡ at ws (at ps i)
+unfolding symbols-of
+at-symbols ws ps i h = at-map (at ws) ps i h

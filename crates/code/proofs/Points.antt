@@ -4,7 +4,7 @@
 --   group-constant c j            == the power r + 1 of the points of group j
 --   locators-differ, locator-power
 use mathlib.Core.Path.{_≡_, refl, sym, ap, _∙_}
-use Prim.Native.Nat.{ℕ, _+_, _*_, _-_, _/_, _%_, _≤_, _<_}
+use Prim.Native.Nat.{ℕ, _+_, _*_, _-_, _/_, _%_, _<_}
 use native.Mathlib.Nat.{add-comm, div-add-mod', div-lt-iff-lt-mul}
 use native.Mathlib.Omega.{arith}
 use lib.Arith.{digits-lt, digits-div, digits-mod}
@@ -13,11 +13,11 @@ use Rattle.algebra.proofs.Ring.{pow-add, pow-mul, pow-unit, unit-mul}
 use Rattle.field.specs.Field.{q, γ, power}
 use Rattle.field.proofs.Generator.{powers-differ}
 use Rattle.field.proofs.Elem.{Elem, same, ring-of, pow-is, power-below, gamma-below, gen, whole}
-use Rattle.code.specs.Code.{size, group, member, slot-at, point-at, point}
+use Rattle.code.specs.Code.{size, group, member, point-at, point}
 use Rattle.code.specs.Promise.{Points-differ, Group-power}
 use Rattle.code.specs.declared.Code.{Code}
 use Rattle.code.proofs.Accepted.{Good, good}
-use Rattle.code.proofs.Groups.{size-least, member-below, slot-group-member, same-slot}
+use Rattle.code.proofs.Groups.{size-least, member-below, same-slot}
 
 -- members of a group are width powers of γ apart
 width : Code → ℕ

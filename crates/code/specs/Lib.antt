@@ -6,3 +6,4 @@ pub mod Erasure
 pub mod Repair
 pub mod Decoding
 pub mod Promise
+pub mod Case

@@ -1,20 +1,21 @@
--- What is promised of codes, codewords, repairs and decoding. Each statement is a type; proofs/Promises.antt has its proof.
--- Assumes nothing.
---   Points-differ, Group-power, Exponents, Symbols-below, Low-degree    points and polynomials
---   Far-apart, Groups-tell, Decodes-back, Repairs-back                  the third demand
---   Strip-restores, Pass-mends                                          and what follows of strips and the local pass
---   Weights-law, Repair-interpolates                                    repair for any mates, of a codeword or not
---   Encoding-injective, One-codeword                                    messages and codewords
+-- What is promised of codes, codewords, repairs and decoding. Each statement is a type; proofs/Promises.antt proves them all.
+-- Assumes nothing: these are statements.
+--   Points-differ, Group-power, Exponents-are, Symbols-below, Low-degree    points and polynomials
+--   Far-apart, Groups-tell, Decodes-back, Repairs-back                      the third demand
+--   Strip-restores, Pass-mends                                              and what follows of strips and the local pass
+--   Weights-law, Repair-interpolates                                        repair for any mates, of a codeword or not
+--   Encoding-injective, Bridges                                             messages and codewords
+--   Promises                                                                all of them
 use mathlib.Core.Path.{_≡_}
 use mathlib.Core.Logic.{_≢_}
 use mathlib.Core.Bool.{true}
 use mathlib.Core.List.{List, map}
 use Prim.Native.Nat.{ℕ, _+_, _*_, _-_, _≤_, _<_}
 use lib.ListN.{length}
-use Rattle.algebra.specs.Sequence.{at, tabulate, all-below, Each, In}
+use Rattle.algebra.specs.Sequence.{at, tabulate, all-below}
 use Rattle.field.specs.Field.{q, γ, power}
 use Rattle.field.specs.Polynomial.{poly, dotted}
-use Rattle.code.specs.Code.{tolerance, size, code-refusal, group, point, exponent}
+use Rattle.code.specs.Code.{size, code-refusal, group, point, exponent}
 use Rattle.code.specs.Codeword.{is-message, symbol, encoded, Codeword, shared, ceiling, most-shared}
 use Rattle.code.specs.Erasure.{lost-number, guarantee}
 use Rattle.code.specs.Repair.{mates, weights, repaired, symbols-of, column, strip, mends, passed}
@@ -144,6 +145,25 @@ pub record Bridge (c : Code) (ws ms : List ℕ) : Type 0 where
   pub none : ((xs : List ℕ) → fits c ws ms xs ≡ true → ⊥) → (ds : List ℕ) → Codeword c ds → agrees c ds ws ms ≡ true → ⊥
   pub none-back : ((ds : List ℕ) → Codeword c ds → agrees c ds ws ms ≡ true → ⊥) → (xs : List ℕ) → fits c ws ms xs ≡ true → ⊥
   pub two : (xs ys : List ℕ) → fits c ws ms xs ≡ true → fits c ws ms ys ≡ true → xs ≢ ys → encoded c xs ≢ encoded c ys
+  pub two-back : (ds es : List ℕ) (d : Codeword c ds) (e : Codeword c es) → agrees c ds ws ms ≡ true → agrees c es ws ms ≡ true → ds ≢ es
+      → (fits c ws ms (d .message) ≡ true) × (fits c ws ms (e .message) ≡ true) × (d .message ≢ e .message)
 
 unfoldable pub Bridges : Type 0
 Bridges = (c : Code) (ws ms : List ℕ) → Accepted c → Bridge c ws ms
+
+pub record Promises : Type 0 where
+  pub points-differ : Points-differ
+  pub group-power : Group-power
+  pub exponents-are : Exponents-are
+  pub symbols-below : Symbols-below
+  pub low-degree : Low-degree
+  pub far-apart : Far-apart
+  pub groups-tell : Groups-tell
+  pub decodes-back : Decodes-back
+  pub repairs-back : Repairs-back
+  pub strip-restores : Strip-restores
+  pub pass-mends : Pass-mends
+  pub weights-law : Weights-law
+  pub repair-interpolates : Repair-interpolates
+  pub encoding-injective : Encoding-injective
+  pub bridges : Bridges

@@ -6,11 +6,7 @@ use lib.ListN.{length}
 use Rattle.algebra.proofs.Filling.{Filled, filled-none, filled-more, filled-all}
 use Rattle.code.specs.Codeword.{symbol, encoded}
 use Rattle.code.proofs.Accepted.{Good, good}
-use Rattle.encode.proofs.Rows.{symbol-is, k-below}
-use Rattle.encode.proofs.fill_row.Reads as fill-row-reads
-use Rattle.field.proofs.dot.Reads as dot-reads
-use Rattle.encode.proofs.write_codeword.Reads as reads
-use Rattle.encode.proofs.write_codeword.Lts as lts
+use Rattle.encode.proofs.Rows.{symbol-is, row-room}
 use Rattle.encode.proofs.write_codeword.Statement.{statement}
 use Rattle.encode.proofs.write_codeword.Tie as tie
 
@@ -31,13 +27,13 @@ slice-aggregate-fill-row : tie.Need-slice-aggregate-fill-row Inv-loop μ-loop
 slice-aggregate-fill-row c = sym (c .before .before .loop .inv .1)
 
 fill-row-requires : tie.Need-fill-row-requires Inv-loop μ-loop
-fill-row-requires c κs = let s = c .before .before .before .before .before .before in (s .pre .0, s .pre .1, s .pre .2, omega arith, omega (arith, k-below (s .args .code) (good (s .args .code) (s .pre .2)), c .before .before .loop .inv .1))
+fill-row-requires c κs = let s = c .before .before .before .before .before .before in (s .pre .0, s .pre .1, s .pre .2, omega arith, omega (arith, row-room (s .args .code) (good (s .args .code) (s .pre .2)), c .before .before .loop .inv .1))
 
 slice-aggregate-dot : tie.Need-slice-aggregate-dot Inv-loop μ-loop
 slice-aggregate-dot c = sym (c .before .before .fill-row .ensures .size ∙ c .before .before .before .before .before .loop .inv .1)
 
 dot-requires : tie.Need-dot-requires Inv-loop μ-loop
-dot-requires c κs = let s = c .before .before .before .before .before .before .before .before .before in (s .pre .0, s .pre .1, omega (arith, s .pre .3), omega (arith, k-below (s .args .code) (good (s .args .code) (s .pre .2)), c .before .before .fill-row .ensures .size, c .before .before .before .before .before .loop .inv .1))
+dot-requires c κs = let s = c .before .before .before .before .before .before .before .before .before in (s .pre .0, s .pre .1, omega (arith, s .pre .3), omega (arith, row-room (s .args .code) (good (s .args .code) (s .pre .2)), c .before .before .fill-row .ensures .size, c .before .before .before .before .before .loop .inv .1))
 
 cast-codeword : tie.Need-cast-codeword Inv-loop μ-loop
 cast-codeword c = search needs
@@ -62,7 +58,7 @@ loop-again c =
           (omega (arith, s .pre .4, l .inv .2 .size))
           (c .dot .ensures
           ∙ symbol-is (s .args .code) (l .p) (s .args .message .now) (w .last .1 .1 .0) (s .pre .3)
-          (omega (arith, k-below (s .args .code) (good (s .args .code) (s .pre .2)), w .ensures .size, l .inv .1)) (w .ensures .entry))
+          (omega (arith, row-room (s .args .code) (good (s .args .code) (s .pre .2)), w .ensures .size, l .inv .1)) (w .ensures .entry))
           (l .inv .2),
     )
 
