@@ -6,3 +6,4 @@ pub mod EvaluationCode
 pub mod Monomials
 pub mod Locality
 pub mod Filling
+pub mod Equations

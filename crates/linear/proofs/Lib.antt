@@ -1,0 +1,4 @@
+pub mod Rows
+pub mod Elements
+pub mod Elimination
+pub mod Substitution

@@ -1,0 +1,187 @@
+// Linear equations over a field, solved in a lent buffer. Rows 0 to k - 1 are in echelon form; row k is the newcomer.
+ghost use mathlib.Core.Path.{_≡_};
+ghost use Prim.Native.Nat.{ℕ, _+_, _*_, _<_, _≤_};
+ghost use lib.ListN.{length, replicate};
+ghost use Rattle.field.specs.Field.{q, plus, minus, times, inverse};
+ghost use Rattle.field.specs.Table.{Powers, Logs};
+ghost use Rattle.linear.specs.System.{entry, residue, Echelon, Inserted, Finished};
+ghost use Rattle.linear.specs.Buffer.{Added, Apart, Ready, Stepped, Placed, Backed, Bared};
+
+// All bytes 0: no equation.
+pub fn clear(s: &mut [u8])
+    ensures { λ r. ⌜ now (s .exit) ≡ replicate (length (now (s .entry))) 0 ⌝ }
+{
+    let mut i: usize = 0;
+    while i < s.len() {
+        s[i] = 0;
+        i += 1;
+    }
+}
+
+// The row at dst plus c times the row at src, len columns.
+fn add_row(
+    field: u32,
+    work: &mut [u8],
+    dst: usize,
+    src: usize,
+    len: usize,
+    c: u8,
+    powers: &[u8; 255],
+    logs: &[u8; 256],
+)
+    requires { ⌜ (dst + len ≤ length (now work)) × (src + len ≤ length (now work)) × Apart dst src len × Powers 1 (now powers) × Logs (now logs) ⌝ }
+    ensures { λ r. ⌜ Added field (now (work .entry)) (now (work .exit)) dst src len c ⌝ }
+{
+    let mut m: usize = 0;
+    while m < len {
+        let v = field::mul_add(field, work[dst + m], c, work[src + m], powers, logs);
+        work[dst + m] = v;
+        m += 1;
+    }
+}
+
+// The factor that makes a row which starts with h start with -1.
+fn turn(field: u32, h: u8, powers: &[u8; 255], logs: &[u8; 256]) -> u8
+    requires { ⌜ Powers 1 (now powers) × Logs (now logs) ⌝ }
+    ensures { λ r. ⌜ r ≡ minus field 0 (inverse field h) ⌝ }
+{
+    let i = field::inverse_of(field, h, powers, logs);
+    field::sub(field, 0, i)
+}
+
+// Takes the newcomer through column j: true where it became row j.
+fn step(
+    field: u32,
+    work: &mut [u8],
+    k: usize,
+    j: usize,
+    powers: &[u8; 255],
+    logs: &[u8; 256],
+) -> bool
+    requires { ⌜ Ready field k j (now work) × (j < k) × Powers 1 (now powers) × Logs (now logs) ⌝ }
+    ensures { λ r. ⌜ Stepped field k j (now (work .entry)) (now (work .exit)) r ⌝ }
+{
+    let w = k + 1;
+    let t = k * w + j;
+    let b = j * w + j;
+    let h = work[t];
+    if h == 0 {
+        return false;
+    }
+    if work[b] == 0 {
+        let c = turn(field, h, powers, logs);
+        add_row(field, work, b, t, w - j, c, powers, logs);
+        return true;
+    }
+    add_row(field, work, t, b, w - j, h, powers, logs);
+    false
+}
+
+// Takes the newcomer through all columns: false where it contradicts the rows.
+fn place(field: u32, work: &mut [u8], k: usize, powers: &[u8; 255], logs: &[u8; 256]) -> bool
+    requires { ⌜ Ready field k 0 (now work) × Powers 1 (now powers) × Logs (now logs) ⌝ }
+    ensures { λ r. ⌜ Placed field k (now (work .entry)) (now (work .exit)) r ⌝ }
+{
+    let mut j: usize = 0;
+    while j < k {
+        if step(field, work, k, j, powers, logs) {
+            return true;
+        }
+        j += 1;
+    }
+    if work[k * (k + 1) + k] == 0 {
+        return true;
+    }
+    false
+}
+
+// Inserts the equation of the newcomer's coefficients and the right side v: false where no solution is left.
+pub fn insert(
+    field: u32,
+    k: usize,
+    v: u8,
+    work: &mut [u8],
+    powers: &[u8; 255],
+    logs: &[u8; 256],
+) -> bool
+    requires { ⌜ Echelon field k (now work) × ((m : ℕ) → m < k → entry k (now work) k m < q field) × (v < q field) × Powers 1 (now powers) × Logs (now logs) ⌝ }
+    ensures { λ r. ⌜ Inserted field k v (now (work .entry)) (now (work .exit)) r ⌝ }
+{
+    let c = field::sub(field, 0, v);
+    work[k * (k + 1) + k] = c;
+    place(field, work, k, powers, logs)
+}
+
+// The value of row i at ys.
+fn value(
+    field: u32,
+    work: &[u8],
+    i: usize,
+    k: usize,
+    ys: &[u8],
+    powers: &[u8; 255],
+    logs: &[u8; 256],
+) -> u8
+    requires { ⌜ (i * (k + 1) + (k + 1) ≤ length (now work)) × (length (now ys) ≡ k) × Powers 1 (now powers) × Logs (now logs) ⌝ }
+    ensures { λ r. ⌜ r ≡ residue field k (now (work .entry)) i (now (ys .entry)) ⌝ }
+{
+    let base = i * (k + 1);
+    let sum = field::dot(field, ys, &work[base..], k, powers, logs);
+    field::add(field, sum, work[base + k])
+}
+
+// Back substitution: the unknowns from the last to the first.
+fn back(
+    field: u32,
+    work: &[u8],
+    k: usize,
+    solution: &mut [u8],
+    powers: &[u8; 255],
+    logs: &[u8; 256],
+)
+    requires { ⌜ Echelon field k (now work) × (length (now solution) ≡ k) × Powers 1 (now powers) × Logs (now logs) ⌝ }
+    ensures { λ r. ⌜ Backed field k (now (work .entry)) (now (solution .exit)) ⌝ }
+{
+    clear(solution);
+    let mut j = k;
+    while j > 0 {
+        j -= 1;
+        let v = value(field, work, j, k, solution, powers, logs);
+        solution[j] = v;
+    }
+}
+
+// The first bare row, or k.
+fn bare(work: &[u8], k: usize) -> usize
+    requires { ⌜ k * (k + 1) + (k + 1) ≤ length (now work) ⌝ }
+    ensures { λ r. ⌜ Bared k (now (work .entry)) r ⌝ }
+{
+    let mut j: usize = 0;
+    while j < k {
+        if work[j * (k + 1) + j] == 0 {
+            return j;
+        }
+        j += 1;
+    }
+    k
+}
+
+// True where there is just one solution, which is then written; else the solution stays as it was.
+pub fn finish(
+    field: u32,
+    work: &[u8],
+    k: usize,
+    solution: &mut [u8],
+    powers: &[u8; 255],
+    logs: &[u8; 256],
+) -> bool
+    requires { ⌜ Echelon field k (now work) × (length (now solution) ≡ k) × Powers 1 (now powers) × Logs (now logs) ⌝ }
+    ensures { λ r. ⌜ Finished field k (now (work .entry)) (now (solution .entry)) (now (solution .exit)) r ⌝ }
+{
+    let j = bare(work, k);
+    if j < k {
+        return false;
+    }
+    back(field, work, k, solution, powers, logs);
+    true
+}
