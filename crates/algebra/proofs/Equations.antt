@@ -17,7 +17,7 @@ use lib.Dec.{eqb}
 use borrow.Author.Tests.{eq-eqb, ne-eqb}
 use Rattle.algebra.specs.Ring.{Ring, Field}
 use Rattle.algebra.specs.Equations.{dot, residue, Solves, Echelon, Solutions, no-solution, one-solution, more-solutions}
-use Rattle.algebra.proofs.Ring.{nil-add, add-left-comm, mul-left-comm, add-mul, unit-mul, add-cancel, mul-nil, nil-mul, sub-is, sub-mul, add-interchange}
+use Rattle.algebra.proofs.Ring.{nil-add, add-left-comm, add-mul, unit-mul, add-cancel, mul-nil, nil-mul, sub-is, sub-mul, add-interchange}
 
 module _ (R : Ring) where
   open Ring R using (El, dec, nil as 𝟘, unit as 𝟙, add as _⊕_, sub as _⊖_, mul as _⊗_, add-comm, add-assoc, add-nil, mul-comm, mul-assoc, mul-add)

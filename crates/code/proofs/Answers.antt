@@ -1,10 +1,14 @@
 -- How an answer follows from its refusal. Assumes nothing.
 --   fills-no, fills-yes        a call that fills a buffer refuses, or fills it
 --   answers-no, answers-yes    a call that answers a value
-use mathlib.Core.Path.{_≡_, refl, sym, _∙_}
+--   fills-in, answers-in       what either says where it is not refused
+--   fills-none                 an answer 0 is no refusal
+use mathlib.Core.Path.{_≡_, refl, sym, ap, _∙_}
 use mathlib.Core.Logic.{_≢_}
+use mathlib.Core.Bool.{cond}
 use mathlib.Core.List.{List}
 use Prim.Native.Nat.{ℕ, zero, suc}
+use native.Mathlib.Omega.{arith}
 use borrow.Author.Tests.{eq-eqb, ne-eqb}
 use Rattle.code.specs.Answer.{Answers, Fills}
 use Rattle.code.specs.declared.Answer.{Answer}
@@ -25,3 +29,17 @@ answers-no n v x e h p = rw (ne-eqb n 0 (λ z. h (e ∙ z))) (e, p)
 pub answers-yes : (n v : ℕ) (x : Answer) → n ≡ 0 → x .refusal ≡ 0 → x .value ≡ v → Answers n v x
 unfolding Answers
 answers-yes n v x e h p = rw e (h, p)
+
+-- what such a call says where it is not refused, and that an answer 0 is no refusal
+pub fills-in : (n : ℕ) (bs : List ℕ) (x : ℕ) (a z : List ℕ) → n ≡ 0 → Fills n bs x a z → (x ≡ 0) × (z ≡ bs)
+unfolding Fills
+fills-in n bs x a z e f = rw e at f
+
+pub fills-none : (n : ℕ) (bs : List ℕ) (x : ℕ) (a z : List ℕ) → x ≡ 0 → Fills n bs x a z → n ≡ 0
+unfolding Fills
+fills-none zero bs x a z e f = refl
+fills-none (suc n) bs x a z e f = absurd (omega (arith, f .0))
+
+pub answers-in : (n v : ℕ) (x : Answer) → n ≡ 0 → Answers n v x → (x .refusal ≡ 0) × (x .value ≡ v)
+unfolding Answers
+answers-in n v x e a = (a .0 ∙ e, a .1 ∙ ap (λ b. cond b v 0) (eq-eqb n 0 e))

@@ -8,14 +8,12 @@
 --   listed                 unknowns as a list
 use mathlib.Core.Path.{_≡_, refl, sym, ap, ap₂, _∙_}
 use mathlib.Core.Logic.{_≢_}
-use mathlib.Core.Bool.{true}
 use mathlib.Core.List.{List, [], _∷_}
 use Prim.Native.Nat.{ℕ, zero, suc, _+_, _*_, _≤_, _<_}
 use native.Mathlib.Nat.{add-zero}
 use native.Mathlib.Omega.{arith}
 use lib.ListN.{length, take, drop}
 use lib.Seq.{drop-cons, take-length, ext-getD}
-use Rattle.algebra.specs.Ring.{Ring}
 use Rattle.algebra.specs.Sequence.{at, tabulate}
 use Rattle.algebra.specs.Equations as equations
 use Rattle.algebra.proofs.Sequence.{so, yes-true, length-tabulate, at-tabulate, all-below-at, all-below-intro}

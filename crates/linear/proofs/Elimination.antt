@@ -2,16 +2,15 @@
 --   skipped, reduced, joined           one column: the newcomer is 0 there, is reduced by row j, becomes row j
 --   same-none, same-more, ready-more   one column after the other
 --   placed-in, placed-none, placed-never, inserted
-use mathlib.Core.Path.{_≡_, refl, sym, ap, ap₂, _∙_}
+use mathlib.Core.Path.{_≡_, sym, ap, ap₂, _∙_}
 use mathlib.Core.Logic.{_≢_}
 use mathlib.Core.Bool.{Bool, true, false}
 use mathlib.Core.List.{List}
-use Prim.Native.Nat.{ℕ, zero, suc, _+_, _*_, _-_, _≤_, _<_}
+use Prim.Native.Nat.{ℕ, _+_, _*_, _-_, _≤_, _<_}
 use native.Mathlib.Decide.{ℕ-discrete}
 use native.Mathlib.Omega.{arith}
-use lib.ListN.{length, set, drop}
+use lib.ListN.{length, set}
 use lib.Seq.{getD-set-same, getD-set-other}
-use Rattle.algebra.specs.Ring.{Ring, Field}
 use Rattle.algebra.specs.Sequence.{at}
 use Rattle.algebra.specs.Equations as equations
 use Rattle.algebra.proofs.Ring.{add-cancel, mul-nil}
@@ -19,11 +18,11 @@ use Rattle.algebra.proofs.Equations.{dot-cong, minus-one, residue-cong, residue
 use Rattle.field.specs.Field.{q, plus, minus, times, inverse}
 use Rattle.field.specs.Polynomial.{dotted}
 use Rattle.field.proofs.Laws.{laws}
-use Rattle.field.proofs.Elem.{Elem, same, ring-of, field-of, inv, inverse-below, el, el-is}
+use Rattle.field.proofs.Elem.{Elem, same, ring-of, field-of, inv, el, el-is}
 use Rattle.linear.specs.System.{Vector, entry, coefs, residue, Solved, Echelon, Inserted}
 use Rattle.linear.specs.Buffer.{Added, Ready, All-solved, Same, Stepped, Placed}
 use Rattle.linear.proofs.Rows.{row-step, row-others, row-put}
-use Rattle.linear.proofs.Elements.{Row, zero-below, el-zero, zero-of, rows, vec, row-of, residue-is, residue-to, residue-of, dot-is, echelon-to, echelon-of, echelon-kept, residue-kept}
+use Rattle.linear.proofs.Elements.{Row, zero-below, el-zero, rows, vec, row-of, residue-is, residue-to, residue-of, dot-is, echelon-to, echelon-of, echelon-kept, residue-kept}
 
 pub differ : {A : Type 0} → true ≡ false → A
 differ e = absurd (let z : _≡_ {A = ℕ} 0 1 = cc (e) in omega arith)

@@ -10,7 +10,7 @@ use mathlib.Core.Path.{_≡_}
 use mathlib.Core.Logic.{_≢_}
 use mathlib.Core.Bool.{Bool, true, false}
 use mathlib.Core.List.{List}
-use Prim.Native.Nat.{ℕ, _+_, _*_, _≤_, _<_}
+use Prim.Native.Nat.{ℕ, _+_, _≤_, _<_}
 use Rattle.algebra.specs.Sequence.{at}
 use Rattle.field.specs.Field.{q, plus, times}
 use Rattle.linear.specs.System.{Vector, entry, residue, Solved, Echelon}

@@ -1,4 +1,4 @@
-use Prim.Native.Nat.{_+_, _*_, _-_}
+use Prim.Native.Nat.{_+_}
 use native.Mathlib.Omega.{arith}
 use Rattle.linear.proofs.Rows.{row-step, rows-apart}
 use Rattle.linear.proofs.Elimination.{skipped, reduced, joined}

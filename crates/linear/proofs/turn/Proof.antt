@@ -1,4 +1,4 @@
-use mathlib.Core.Path.{_≡_, ap, _∙_}
+use mathlib.Core.Path.{ap, _∙_}
 use Rattle.field.specs.Field.{minus}
 use borrow.Author.Needs.{needs}
 use Rattle.linear.proofs.turn.Statement.{statement}

@@ -1,0 +1,341 @@
+// Decoding, grading and the stripe's record.
+ghost use mathlib.Core.Path.{_≡_};
+ghost use mathlib.Core.Bool.{true};
+ghost use Prim.Native.Nat.{_+_, _*_, _<_, _≤_};
+ghost use lib.ListN.{length, replicate};
+ghost use Rattle.field.specs.Table.{Powers, Logs};
+ghost use Rattle.code.specs.Code.{code-refusal};
+ghost use Rattle.code.specs.Erasure.{kept-below, lost-number, guarantee, grade, first-broken};
+ghost use Rattle.linear.specs.System.{Echelon};
+ghost use Rattle.decode.specs.Verdict.{decode-refusal, Verdict, Decode-says};
+ghost use Rattle.decode.specs.Losses.{marks-refusal, Grade-says, Losses-says, First-says};
+ghost use Rattle.decode.specs.Gathering.{Taken, Gathered};
+ghost use Rattle.decode.specs.Recording.{Is-verdict, outcome-number, blank, Record-says};
+use code::Answer;
+use code::Code;
+
+// What became of a stripe: its message is decided, no codeword agrees, or more than one does.
+pub enum Outcome {
+    Decided,
+    Foreign,
+    Undecided,
+}
+
+// A stripe's record: its code, the number lost, the guarantee, the grade, the first broken group, and the outcome.
+pub struct StripeRecord {
+    pub code: Code,
+    pub lost: u32,
+    pub guarantee: u32,
+    pub grade: u32,
+    pub first: u32,
+    pub outcome: Outcome,
+}
+
+// A refusal number, and a record that is blank on a refusal.
+pub struct Recorded {
+    pub refusal: u32,
+    pub record: StripeRecord,
+}
+
+// Takes in the equation of slot p, if it is kept: false where no message is left.
+fn take_slot(
+    code: Code,
+    p: u32,
+    word: &[u8],
+    marks: &[u8],
+    work: &mut [u8],
+    powers: &[u8; 255],
+    logs: &[u8; 256],
+) -> bool
+    requires { ⌜ (code-refusal code ≡ 0) × (p < code .n) × (length (now word) ≡ code .n) × (length (now marks) ≡ code .n) × (kept-below code (now word) (now marks) ≡ true) × Echelon (code .field) (code .k) (now work) × Powers 1 (now powers) × Logs (now logs) ⌝ }
+    ensures { λ x. ⌜ Taken code p (now (word .entry)) (now (marks .entry)) (now (work .entry)) (now (work .exit)) x ⌝ }
+{
+    let i = p as usize;
+    if marks[i] == 1 {
+        return true;
+    }
+    let k = code.k as usize;
+    let t = k * (k + 1);
+    encode::fill_row(code, p, &mut work[t..], powers, logs);
+    linear::insert(code.field, k, word[i], work, powers, logs)
+}
+
+// Takes in the equations of all kept slots: false where no message agrees with them.
+fn gather(
+    code: Code,
+    word: &[u8],
+    marks: &[u8],
+    work: &mut [u8],
+    powers: &[u8; 255],
+    logs: &[u8; 256],
+) -> bool
+    requires { ⌜ (code-refusal code ≡ 0) × (length (now word) ≡ code .n) × (length (now marks) ≡ code .n) × (kept-below code (now word) (now marks) ≡ true) × (code .k * (code .k + 1) + (code .k + 1) ≤ length (now work)) × Powers 1 (now powers) × Logs (now logs) ⌝ }
+    ensures { λ x. ⌜ Gathered code (now (word .entry)) (now (marks .entry)) (now (work .exit)) x ⌝ }
+{
+    linear::clear(work);
+    let n = code.n;
+    let mut p: u32 = 0;
+    while p < n {
+        if !take_slot(code, p, word, marks, work, powers, logs) {
+            return false;
+        }
+        p += 1;
+    }
+    true
+}
+
+// 0: just one message fits, and is written; 9: none; 10: more than one. All of work is left 0.
+fn solve(code: Code, word: &[u8], marks: &[u8], message: &mut [u8], work: &mut [u8]) -> u32
+    requires { ⌜ (code-refusal code ≡ 0) × (length (now word) ≡ code .n) × (length (now marks) ≡ code .n) × (kept-below code (now word) (now marks) ≡ true) × (length (now message) ≡ code .k) × (code .k * (code .k + 1) + (code .k + 1) ≤ length (now work)) ⌝ }
+    ensures { λ x. ⌜ Verdict code (now (word .entry)) (now (marks .entry)) (now (message .entry)) (now (message .exit)) x × (now (work .exit) ≡ replicate (length (now (work .entry))) 0) ⌝ }
+{
+    let powers = field::power_table();
+    let logs = field::log_table();
+    if !gather(code, word, marks, work, &powers, &logs) {
+        linear::clear(work);
+        return 9;
+    }
+    let k = code.k as usize;
+    let one = linear::finish(code.field, work, k, message, &powers, &logs);
+    linear::clear(work);
+    if one {
+        return 0;
+    }
+    10
+}
+
+// The refusal of decode, or 0; message and work are their buffers' lengths.
+fn decode_refusal(code: Code, word: &[u8], marks: &[u8], message: usize, work: usize) -> u32
+    ensures { λ x. ⌜ x ≡ decode-refusal code (now (word .entry)) (now (marks .entry)) message work ⌝ }
+{
+    let refusal = code::code_refusal(code);
+    if refusal != 0 {
+        return refusal;
+    }
+    let n = code.n as usize;
+    let k = code.k as usize;
+    if word.len() != n {
+        return 5;
+    }
+    if marks.len() != n {
+        return 5;
+    }
+    if message != k {
+        return 5;
+    }
+    if work < n * (k + 1) {
+        return 5;
+    }
+    if !code::all_below(marks, 2) {
+        return 8;
+    }
+    if !code::kept_below(code, word, marks) {
+        return 6;
+    }
+    0
+}
+
+// Decodes the kept symbols of a word into the message that alone agrees with them.
+pub fn decode(code: Code, word: &[u8], marks: &[u8], message: &mut [u8], work: &mut [u8]) -> u32
+    ensures { λ x. ⌜ Decode-says code (now (word .entry)) (now (marks .entry)) x (now (message .entry)) (now (message .exit)) (now (work .entry)) (now (work .exit)) ⌝ }
+{
+    let refusal = decode_refusal(code, word, marks, message.len(), work.len());
+    if refusal != 0 {
+        return refusal;
+    }
+    let n = code.n as usize;
+    let k = code.k as usize;
+    let used = n * (k + 1);
+    solve(code, word, marks, message, &mut work[..used])
+}
+
+// How many slots are lost.
+fn count_lost(code: Code, marks: &[u8]) -> u32
+    requires { ⌜ (code-refusal code ≡ 0) × (length (now marks) ≡ code .n) ⌝ }
+    ensures { λ x. ⌜ x ≡ lost-number code (now (marks .entry)) ⌝ }
+{
+    let n = code.n as usize;
+    let mut lost: u32 = 0;
+    let mut p: usize = 0;
+    while p < n {
+        if marks[p] == 1 {
+            lost += 1;
+        }
+        p += 1;
+    }
+    lost
+}
+
+// The first group with two or more losses, 255 if none.
+fn first_group(code: Code, marks: &[u8]) -> u32
+    requires { ⌜ (code-refusal code ≡ 0) × (length (now marks) ≡ code .n) ⌝ }
+    ensures { λ x. ⌜ x ≡ first-broken code (now (marks .entry)) ⌝ }
+{
+    let size = code.r + 1;
+    let groups = code.n / size;
+    let mut j: u32 = 0;
+    'groups: loop {
+        if j == groups {
+            break 255;
+        }
+        let mut lost: u32 = 0;
+        let mut i: u32 = 0;
+        while i < size {
+            if marks[(j * size + i) as usize] == 1 {
+                lost += 1;
+            }
+            if lost > 1 {
+                break 'groups j;
+            }
+            i += 1;
+        }
+        j += 1;
+    }
+}
+
+// n - k - ⌈k/r⌉ + 1: so many losses never lose a message.
+fn guarantee_of(code: Code) -> u32
+    requires { ⌜ code-refusal code ≡ 0 ⌝ }
+    ensures { λ x. ⌜ x ≡ guarantee code ⌝ }
+{
+    let blocks = (code.k + code.r - 1) / code.r;
+    code.n - code.k - (blocks - 1)
+}
+
+// 0: nothing lost; 1: every group mends itself; 2: within the guarantee; 3: beyond.
+fn grade_of(code: Code, marks: &[u8]) -> u32
+    requires { ⌜ (code-refusal code ≡ 0) × (length (now marks) ≡ code .n) ⌝ }
+    ensures { λ x. ⌜ x ≡ grade code (now (marks .entry)) ⌝ }
+{
+    let lost = count_lost(code, marks);
+    if lost == 0 {
+        return 0;
+    }
+    let first = first_group(code, marks);
+    if first == 255 {
+        return 1;
+    }
+    let sure = guarantee_of(code);
+    if lost <= sure {
+        return 2;
+    }
+    3
+}
+
+// The refusal of grade, losses and first_broken, or 0.
+fn marks_refusal(code: Code, marks: &[u8]) -> u32
+    ensures { λ x. ⌜ x ≡ marks-refusal code (now (marks .entry)) ⌝ }
+{
+    let refusal = code::code_refusal(code);
+    if refusal != 0 {
+        return refusal;
+    }
+    let n = code.n as usize;
+    if marks.len() != n {
+        return 5;
+    }
+    if !code::all_below(marks, 2) {
+        return 8;
+    }
+    0
+}
+
+// Grades a stripe by its marks.
+pub fn grade(code: Code, marks: &[u8]) -> Answer
+    ensures { λ x. ⌜ Grade-says code (now (marks .entry)) x ⌝ }
+{
+    let refusal = marks_refusal(code, marks);
+    if refusal != 0 {
+        return Answer { refusal, value: 0 };
+    }
+    let value = grade_of(code, marks);
+    Answer { refusal: 0, value }
+}
+
+// Answers how many slots are lost.
+pub fn losses(code: Code, marks: &[u8]) -> Answer
+    ensures { λ x. ⌜ Losses-says code (now (marks .entry)) x ⌝ }
+{
+    let refusal = marks_refusal(code, marks);
+    if refusal != 0 {
+        return Answer { refusal, value: 0 };
+    }
+    let value = count_lost(code, marks);
+    Answer { refusal: 0, value }
+}
+
+// Answers the first group with two or more losses, 255 if none.
+pub fn first_broken(code: Code, marks: &[u8]) -> Answer
+    ensures { λ x. ⌜ First-says code (now (marks .entry)) x ⌝ }
+{
+    let refusal = marks_refusal(code, marks);
+    if refusal != 0 {
+        return Answer { refusal, value: 0 };
+    }
+    let value = first_group(code, marks);
+    Answer { refusal: 0, value }
+}
+
+// The outcome that a verdict 0, 9 or 10 stands for.
+fn outcome_of(verdict: u32) -> Outcome
+    requires { ⌜ Is-verdict verdict ⌝ }
+    ensures { λ x. ⌜ outcome-number x ≡ verdict ⌝ }
+{
+    match verdict {
+        0 => Outcome::Decided,
+        9 => Outcome::Foreign,
+        _ => Outcome::Undecided,
+    }
+}
+
+// The record of a refusal: every field 0, and undecided.
+fn blank_record() -> StripeRecord
+    ensures { λ x. ⌜ x ≡ blank ⌝ }
+{
+    let code = Code {
+        field: 0,
+        r: 0,
+        n: 0,
+        k: 0,
+    };
+    StripeRecord {
+        code,
+        lost: 0,
+        guarantee: 0,
+        grade: 0,
+        first: 0,
+        outcome: Outcome::Undecided,
+    }
+}
+
+// Decodes a stripe and draws up its record; no codeword and more than one are outcomes.
+pub fn record(
+    code: Code,
+    word: &[u8],
+    marks: &[u8],
+    message: &mut [u8],
+    work: &mut [u8],
+) -> Recorded
+    ensures { λ x. ⌜ Record-says code (now (word .entry)) (now (marks .entry)) x (now (message .entry)) (now (message .exit)) (now (work .entry)) (now (work .exit)) ⌝ }
+{
+    let refusal = decode_refusal(code, word, marks, message.len(), work.len());
+    if refusal != 0 {
+        let record = blank_record();
+        return Recorded { refusal, record };
+    }
+    let verdict = decode(code, word, marks, message, work);
+    let lost = count_lost(code, marks);
+    let guarantee = guarantee_of(code);
+    let grade = grade_of(code, marks);
+    let first = first_group(code, marks);
+    let outcome = outcome_of(verdict);
+    let record = StripeRecord {
+        code,
+        lost,
+        guarantee,
+        grade,
+        first,
+        outcome,
+    };
+    Recorded { refusal: 0, record }
+}
