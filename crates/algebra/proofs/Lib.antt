@@ -1,5 +1,6 @@
 pub mod Ring
 pub mod Sequence
+pub mod Counting
 pub mod Polynomial
 pub mod Interpolation
 pub mod EvaluationCode

@@ -11,7 +11,7 @@ use Prim.Native.Nat.{ℕ, _<_}
 use lib.ListN.{length}
 use Rattle.algebra.specs.Sequence.{tabulate, all-below, Each}
 use Rattle.field.specs.Field.{q, times}
-use Rattle.code.specs.Code.{code-refusal, point}
+use Rattle.code.specs.Code.{code-of, code-refusal, point}
 use Rattle.code.specs.Codeword.{encoded}
 use Rattle.code.specs.Erasure.{guarantee, grade}
 use Rattle.code.specs.Repair.{weights, repaired}
@@ -53,9 +53,6 @@ Holds (foreign c ws ms) = Accepted c × ((xs : List ℕ) → fits c ws ms xs ≡
 Holds (undecided c ws ms) = Accepted c × Two-fit c ws ms
 Holds (graded c ms g) = Accepted c × (grade c ms ≡ g)
 Holds (multiplies f a b p) = times f a b ≡ p
-
-abbrev pub code-of : (field r n k : ℕ) → Code
-code-of f r n k = record { field = f; r = r; n = n; k = k }
 
 -- the sheet's code N, and its codeword of 1 1 1 1
 abbrev pub N : Code

@@ -1,5 +1,6 @@
 -- The code's numbers, questions 1 to 4, groups and points. Assumes nothing: these are definitions.
 -- The paper's words: a slot is a coordinate of the codeword, a group a repair group with locality r, a point an evaluation point.
+--   code-of             the code of four numbers
 --   tolerance, size     losses that a group stands by itself; members of a group
 --   code-refusal        questions 1 to 4
 --   group, member       of a slot; slot-at is their inverse
@@ -11,6 +12,9 @@ use lib.Dec.{leb, eqb}
 use Rattle.field.specs.Field.{q, γ, power}
 use Rattle.code.specs.Question.{ask}
 use Rattle.code.specs.declared.Code.{Code}
+
+abbrev pub code-of : (field r n k : ℕ) → Code
+code-of f r n k = record { field = f; r = r; n = n; k = k }
 
 unfoldable pub tolerance : Code → ℕ
 tolerance c = 1

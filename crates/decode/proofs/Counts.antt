@@ -1,5 +1,4 @@
 -- Losses counted: in a word, in a group; the first broken group, and the grade. Assumes nothing.
---   count-yes, count-no                  a count, one place more
 --   lost-yes, lost-no, member-yes, member-no   the losses among the first members of a group, one member more
 --   found, found-none                    the first broken group, where all before it stand
 --   member-below                         a member's slot
@@ -16,6 +15,7 @@ use native.Mathlib.Decide.{ℕ-discrete}
 use native.Mathlib.Omega.{arith}
 use borrow.Author.Tests.{eq-eqb, ne-eqb, le-leb, lt-leb}
 use Rattle.algebra.specs.Sequence.{at, count, every}
+use Rattle.algebra.proofs.Counting.{count-yes, count-no, count-mono}
 use Rattle.algebra.proofs.Sequence.{so, yes-true, no-false, every-at, every-intro}
 use Rattle.field.proofs.Laws.{q-most}
 use Rattle.code.specs.Code.{tolerance, size, groups, slot-at, code-refusal}
@@ -25,24 +25,6 @@ use Rattle.code.specs.declared.Code.{Code}
 use Rattle.code.proofs.Accepted.{good}
 use Rattle.code.proofs.Groups.{slot-below}
 use Rattle.code.proofs.Exponents.{ceiling-is, room}
-
-module _ (t : ℕ → Bool) where
-  pub count-yes : (i x : ℕ) → t i ≡ true → x ≡ count t i → x + 1 ≡ count t (i + 1)
-  unfolding count
-  count-yes i x e h = rw (add-one i, e) (omega arith)
-
-  pub count-no : (i x : ℕ) → t i ≡ false → x ≡ count t i → x ≡ count t (i + 1)
-  unfolding count
-  count-no i x e h = rw (add-one i, e) (omega arith)
-
-  pub count-mono : (i n : ℕ) → i ≤ n → count t i ≤ count t n
-  unfolding count
-  count-mono i zero h = let e : i ≡ 0 = omega arith in rw e (omega arith)
-  count-mono i (suc n) h = go (ℕ-discrete i (suc n)) (count-mono i n)
-    where
-      go : Dec (i ≡ suc n) → (i ≤ n → count t i ≤ count t n) → count t i ≤ cond (t n) 1 0 + count t n
-      go (yes e) ih = rw e (omega arith)
-      go (no n) ih = omega (arith, ih (omega arith))
 
 -- the members of group j, of a size
 unfoldable pub member-lost : (size : ℕ) → List ℕ → (j : ℕ) → ℕ → Bool
@@ -63,11 +45,11 @@ losses-to g ms j i = count (member-lost g ms j) i
 module _ (g : ℕ) (ms : List ℕ) (j i x : ℕ) (h : x ≡ losses-to g ms j i) where
   pub member-yes : at ms (j * g + i) ≡ 1 → x + 1 ≡ losses-to g ms j (i + 1)
   unfolding member-lost
-  member-yes e = count-yes (member-lost g ms j) i x (lost-yes ms (j * g + i) e) h
+  member-yes e = ap (λ n. n + 1) h ∙ count-yes (member-lost g ms j) i (lost-yes ms (j * g + i) e)
 
   pub member-no : at ms (j * g + i) ≢ 1 → x ≡ losses-to g ms j (i + 1)
   unfolding member-lost
-  member-no n = count-no (member-lost g ms j) i x (lost-no ms (j * g + i) n) h
+  member-no n = h ∙ count-no (member-lost g ms j) i (lost-no ms (j * g + i) n)
 
 module _ (c : Code) (ms : List ℕ) (j : ℕ) where
   losses-is : group-losses c j ms ≡ losses-to (c .r + 1) ms j (c .r + 1)

@@ -1,12 +1,13 @@
 use mathlib.Core.Path.{_≡_, refl, ap, _∙_}
 use mathlib.Core.Logic.{⊎-elim}
-use Prim.Native.Nat.{_-_, _≤_}
+use Prim.Native.Nat.{_+_, _-_, _≤_}
 use native.Mathlib.Omega.{arith}
 use Rattle.algebra.specs.Sequence.{count}
 use Rattle.algebra.proofs.Sequence.{count-most}
 use Rattle.code.specs.Erasure.{lost, lost-number}
 use Rattle.code.proofs.Accepted.{good, n-byte}
-use Rattle.decode.proofs.Counts.{count-yes, count-no, lost-yes, lost-no}
+use Rattle.algebra.proofs.Counting.{count-yes, count-no}
+use Rattle.decode.proofs.Counts.{lost-yes, lost-no}
 use Rattle.decode.proofs.count_lost.Statement.{statement}
 use Rattle.decode.proofs.count_lost.Tie as tie
 
@@ -43,8 +44,8 @@ loop-again c =
     let m = c .before .before .before .before .before .args .marks .now in
     let l = c .before .before .before .loop in (
       omega arith,
-      ⊎-elim (λ w. w .1 ∙ count-yes (lost m) (l .p) (l .lost) (lost-yes m (l .p) (w .0 .taken)) (l .inv .1))
-          (λ w. w .1 ∙ count-no (lost m) (l .p) (l .lost) (lost-no m (l .p) (w .0 .left)) (l .inv .1)) (c .if1 .came),
+      ⊎-elim (λ w. w .1 ∙ ap (λ n. n + 1) (l .inv .1) ∙ count-yes (lost m) (l .p) (lost-yes m (l .p) (w .0 .taken)))
+          (λ w. w .1 ∙ l .inv .1 ∙ count-no (lost m) (l .p) (lost-no m (l .p) (w .0 .left))) (c .if1 .came),
     )
 
 returns : tie.Need-returns Inv-loop μ-loop

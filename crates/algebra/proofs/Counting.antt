@@ -1,0 +1,88 @@
+-- How many numbers pass a test: one number more, none, a stretch more. Assumes nothing.
+--   count-zero, count-yes, count-no    one number more, that passes the test or not
+--   count-none             where none passes
+--   count-add, count-mono  the numbers below a, and b more
+--   count-and              a test joined to one that does not depend on the number
+--   count-some, count-one  one that passes, and the only one
+--   or-left, or-right      one of two tests holds
+use mathlib.Core.Path.{_≡_, refl, sym, ap, _∙_}
+use mathlib.Core.Logic.{_≢_}
+use mathlib.Core.Bool.{Bool, true, false, cond, _&&_, _||_}
+use Prim.Native.Nat.{ℕ, zero, suc, _+_, _-_, _≤_, _<_}
+use native.Mathlib.Nat.{add-zero, add-suc, le-refl, not-suc-le-zero}
+use native.Mathlib.Decide.{ℕ-discrete, decLt}
+use native.Mathlib.Numerals.{add-one}
+use native.Mathlib.Omega.{arith}
+use lib.Dec.{T}
+use Rattle.algebra.specs.Sequence.{count}
+use Rattle.algebra.proofs.Sequence.{yes-true, no-false, count-same}
+
+pub or-left : (a b : Bool) → T a → T (a || b)
+or-left true b t = tt
+or-left false b t = absurd t
+
+pub or-right : (a b : Bool) → T b → T (a || b)
+or-right true b t = tt
+or-right false b t = t
+
+module _ (t : ℕ → Bool) where
+  pub count-zero : count t 0 ≡ 0
+  unfolding count
+  count-zero = refl
+
+  pub count-yes : (n : ℕ) → t n ≡ true → count t n + 1 ≡ count t (n + 1)
+  unfolding count
+  count-yes n e = rw (add-one n, e) (omega arith)
+
+  pub count-no : (n : ℕ) → t n ≡ false → count t n ≡ count t (n + 1)
+  unfolding count
+  count-no n e = rw (add-one n, e) (omega arith)
+
+  pub count-none : (n : ℕ) → ((i : ℕ) → i < n → t i ≡ false) → count t n ≡ 0
+  unfolding count
+  count-none zero h = refl
+  count-none (suc n) h = rw (h n (le-refl (suc n))) (omega (arith, count-none n (λ i l. h i (omega arith))))
+
+  pub count-add : (a b : ℕ) → count t (a + b) ≡ count (λ i. t (a + i)) b + count t a
+  unfolding count
+  count-add a zero = ap (count t) (add-zero a) ∙ omega arith
+  count-add a (suc b) = ap (count t) (add-suc a b) ∙ omega (arith, count-add a b)
+
+  pub count-mono : (i n : ℕ) → i ≤ n → count t i ≤ count t n
+  count-mono i n h = let e : i + (n - i) ≡ n = omega arith in omega (arith, ap (count t) e, count-add i (n - i))
+
+-- a test joined to one that does not depend on the number
+pub count-and : (t : ℕ → Bool) (s : Bool) (n : ℕ) → count (λ i. t i && s) n ≡ cond s (count t n) 0
+count-and t true n = count-same (λ i. t i && true) t n (λ i h. and-true (t i))
+  where
+    and-true : (a : Bool) → a && true ≡ a
+    and-true true = refl
+    and-true false = refl
+count-and t false n = count-none (λ i. t i && false) n (λ i h. and-false (t i))
+  where
+    and-false : (a : Bool) → a && false ≡ false
+    and-false true = refl
+    and-false false = refl
+
+-- one that passes, and two that do
+pub count-some : (t : ℕ → Bool) (n i : ℕ) → i < n → t i ≡ true → 1 ≤ count t n
+unfolding count
+count-some t zero i h e = absurd (not-suc-le-zero h)
+count-some t (suc n) i h e = go (ℕ-discrete i n) (λ l. count-some t n i l e)
+  where
+    go : Dec (i ≡ n) → (i < n → 1 ≤ count t n) → 1 ≤ cond (t n) 1 0 + count t n
+    go (yes p) rest = rw (sym (ap t p) ∙ e) (omega arith)
+    go (no p) rest = omega (arith, rest (omega arith))
+
+count-two : (t : ℕ → Bool) (n i k : ℕ) → i < k → k < n → t i ≡ true → t k ≡ true → 2 ≤ count t n
+count-two t n i k h l e d =
+    let s : k + (n - k) ≡ n = omega arith in
+    let z : 0 < n - k = omega arith in
+    omega (arith, ap (count t) s, count-add t k (n - k), count-some t k i h e, count-some (λ m. t (k + m)) (n - k) 0 z (ap t (add-zero k) ∙ d))
+
+pub count-one : (t : ℕ → Bool) (n i k : ℕ) → count t n ≡ 1 → i < n → k < n → t i ≡ true → k ≢ i → t k ≡ false
+count-one t n i k c h l e d = no-false (t k) (λ p. go p (decLt i k))
+  where
+    go : T (t k) → Dec (i < k) → ⊥
+    go p (yes b) = omega (arith, count-two t n i k b l e (yes-true (t k) p))
+    go p (no b) = omega (arith, count-two t n k i (omega arith) h (yes-true (t k) p) e)

@@ -1,0 +1,6 @@
+pub mod Slots
+pub mod Sixteen
+pub mod Weighing
+pub mod Refusals
+pub mod Columns
+pub mod Promises

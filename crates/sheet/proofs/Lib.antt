@@ -1,0 +1,11 @@
+pub mod Loops
+pub mod Words
+pub mod Slots
+pub mod Bytes
+pub mod Rows
+pub mod Accepted
+pub mod Promises
+pub mod Puts
+pub mod Reports
+pub mod Bounds
+pub mod Reporting

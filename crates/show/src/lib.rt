@@ -1,0 +1,16 @@
+// Numbers and lines on standard output, for the programs.
+// A number and a space.
+pub fn put(n: u32) {
+    io::print_decimal(1, n as u64);
+    io::write_all(1, b" ");
+}
+
+// The bytes, each with a space, and a line end.
+pub fn put_line(bytes: &[u8]) {
+    let mut i: usize = 0;
+    while i < bytes.len() {
+        put(bytes[i] as u32);
+        i += 1;
+    }
+    io::write_all(1, b"\n");
+}

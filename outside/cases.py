@@ -1,0 +1,117 @@
+"""Prints what the program `cases` must write, by the reference: crates/cases/stdout is this text."""
+
+import reference as ref
+
+
+def line(*numbers):
+    print("".join(f"{n} " for n in numbers))
+
+
+def head(name, code):
+    print(name, *code, "=", end=" ")
+
+
+def encodes(code, message, codeword):
+    refusal = ref.encode(code, message, codeword)
+    head("encode", code)
+    line(refusal, *codeword)
+
+
+def weighs(code, slot):
+    out = bytearray(16)
+    refusal = ref.weights(code, slot, out)
+    head("weights", code)
+    line(refusal, *out)
+
+
+def repairs(code, slot, mates):
+    head("repair", code)
+    line(*ref.repair(code, slot, mates))
+
+
+def rebuilds(code, slot, strips, output):
+    refusal = ref.rebuild(code, slot, strips, output)
+    head("rebuild", code)
+    line(refusal, *output)
+
+
+def views(code, slot, word):
+    refusal, first = ref.view(code, slot, word)
+    part = word[first : first + code.r + 1] if refusal == 0 else b""
+    head("view", code)
+    line(refusal, *part)
+
+
+def passes(code, word, marks):
+    head("pass", code)
+    line(*ref.local_pass(code, word, marks))
+    line(*word)
+    line(*marks)
+
+
+def decodes(code, word, marks, message, work):
+    refusal = ref.decode(code, word, marks, message, work)
+    head("decode", code)
+    line(refusal, *ref.grade(code, marks), *message)
+
+
+def classroom():
+    code = ref.Code(0, 2, 9, 4)
+    word = bytes([4, 8, 7, 1, 11, 2, 0, 0, 0])
+    encodes(code, bytes([1, 1, 1, 1]), bytearray(9))
+    encodes(code, bytes([1, 2, 3, 4]), bytearray(9))
+    encodes(code, bytes([1, 2, 13, 4]), bytearray(9))
+    weighs(code, 0)
+    weighs(code, 9)
+    repairs(code, 0, bytes([8, 7]))
+    repairs(ref.Code(0, 2, 3, 1), 0, bytes([5, 7]))
+    views(code, 4, word)
+    views(code, 9, word)
+    for text, received in [
+        ("111100000", word),
+        ("001001111", word),
+        ("000011111", word),
+        ("000000000", word[:8] + b"\x01"),
+        ("111111111", word),
+        ("000020000", word),
+    ]:
+        decodes(code, received, bytes(map(int, text)), bytearray([7] * 4), bytearray(45))
+
+
+def questions():
+    ones = bytes([1, 1, 1, 1])
+    for numbers in [(2, 2, 9, 4), (0, 4, 10, 4), (0, 2, 10, 4), (0, 2, 15, 4), (0, 2, 9, 7), (0, 2, 9, 0)]:
+        encodes(ref.Code(*numbers), ones, bytearray(9))
+    encodes(ref.Code(0, 2, 9, 4), ones[:3], bytearray(9))
+    encodes(ref.Code(*[2**32 - 1] * 4), ones[:1], bytearray(9))
+
+
+def other_codes():
+    encodes(ref.Code(0, 3, 12, 7), bytes([1, 2, 3, 4, 5, 6, 7]), bytearray(12))
+    encodes(ref.Code(1, 2, 9, 5), bytes([1, 2, 3, 4, 255]), bytearray(9))
+    code = ref.Code(1, 4, 10, 3)
+    weighs(code, 7)
+    repairs(code, 7, bytes([10, 200, 30, 140]))
+    rebuilds(code, 7, bytes([10, 0, 1, 200, 0, 2, 30, 0, 3, 140, 0, 4]), bytearray(3))
+    rebuilds(code, 7, b"", bytearray(0))
+
+
+def corner(*numbers):
+    code = ref.Code(*numbers)
+    message = bytes((7 * i + 3) % ref.order(code.field) for i in range(code.k))
+    word, marks = bytearray(code.n), bytearray(code.n)
+    encodes(code, message, word)
+    word[0], marks[0] = 255, 1
+    decodes(code, word, marks, bytearray(code.k), bytearray(code.n * (code.k + 1)))
+    passes(code, word, marks)
+
+
+if __name__ == "__main__":
+    classroom()
+    questions()
+    other_codes()
+    corner(0, 1, 12, 6)
+    corner(0, 11, 12, 11)
+    corner(0, 2, 12, 1)
+    corner(1, 14, 30, 5)
+    corner(1, 16, 255, 240)

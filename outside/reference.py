@@ -1,0 +1,452 @@
+"""Reference of the stripe code, written from the paper alone by direct, slow definitions.
+
+It shares no code and no table with the library: products are carry-less products reduced by 11D,
+inverses are searched for, codewords are values of the encoding polynomial, repair is Lagrange's
+formula, and decoding is Gauss-Jordan elimination over all kept equations.
+
+Each call takes the code and the caller's buffers (bytes, bytearray, or a list for 32-bit numbers),
+asks its questions in the order that is written above it, writes its outputs in place, and answers
+the refusal, or the refusal and a value. A refusal changes nothing and its value is 0; the work
+buffer alone is cleared under 9 and 10.
+"""
+
+from collections import namedtuple
+from functools import lru_cache
+
+Code = namedtuple("Code", "field r n k")
+
+GAMMA = 2  # generates the nonzero elements of both fields
+REDUCER = 0x11D
+MOST_WEIGHTS = 16
+MOST_STRIP = 4096
+SHEET_BUFFER = 255  # least length of the sheet reader's word and marks
+REPORT_INPUT = 1032
+REPORT_TEXT = 1024  # least length of the report's text buffer
+NO_GROUP = 255
+DECIDED, FOREIGN, UNDECIDED = 0, 9, 10
+
+
+# Fields ------------------------------------------------------------------------------------------
+
+
+def order(field):
+    """The number of elements, q."""
+    return 13 if field == 0 else 256
+
+
+def add(field, a, b):
+    return (a + b) % 13 if field == 0 else a ^ b
+
+
+def sub(field, a, b):
+    return (a - b) % 13 if field == 0 else a ^ b
+
+
+@lru_cache(maxsize=None)
+def mul(field, a, b):
+    if field == 0:
+        return a * b % 13
+    product = 0
+    for bit in range(8):
+        if b >> bit & 1:
+            product ^= a << bit
+    for bit in range(14, 7, -1):
+        if product >> bit & 1:
+            product ^= REDUCER << (bit - 8)
+    return product
+
+
+@lru_cache(maxsize=None)
+def inverse(field, a):
+    return next(b for b in range(1, order(field)) if mul(field, a, b) == 1)
+
+
+@lru_cache(maxsize=None)
+def power(field, a, e):
+    return 1 if e == 0 else mul(field, a, power(field, a, e - 1))
+
+
+# The code ----------------------------------------------------------------------------------------
+
+
+def group(code, slot):
+    return slot // (code.r + 1)
+
+
+def members(code, g):
+    """The slots of a group, in order."""
+    return range(g * (code.r + 1), (g + 1) * (code.r + 1))
+
+
+def groups(code):
+    return code.n // (code.r + 1)
+
+
+def mates(code, slot):
+    return [p for p in members(code, group(code, slot)) if p != slot]
+
+
+def point(code, slot):
+    j, i = divmod(slot, code.r + 1)
+    return power(code.field, GAMMA, j + i * ((order(code.field) - 1) // (code.r + 1)))
+
+
+def exponent(code, m):
+    return m // code.r * (code.r + 1) + m % code.r
+
+
+def guarantee(code):
+    return code.n - code.k - -(-code.k // code.r) + 1
+
+
+def evaluate(code, message, x):
+    """The encoding polynomial's value at x."""
+    total = 0
+    for m, symbol in enumerate(message):
+        term = mul(code.field, symbol, power(code.field, x, exponent(code, m)))
+        total = add(code.field, total, term)
+    return total
+
+
+def code_refusal(code):
+    """Questions 1 to 4."""
+    if code.field not in (0, 1):
+        return 1
+    q = order(code.field)
+    if not (1 <= code.r <= 16 and (q - 1) % (code.r + 1) == 0):
+        return 2
+    if not (code.n % (code.r + 1) == 0 and code.r + 1 <= code.n <= q - 1):
+        return 3
+    if not 1 <= code.k <= code.r * code.n // (code.r + 1):
+        return 4
+    return 0
+
+
+def symbols_fit(code, symbols):
+    return all(s < order(code.field) for s in symbols)
+
+
+def marks_fit(marks):
+    return all(m in (0, 1) for m in marks)
+
+
+# Encoding and repair -----------------------------------------------------------------------------
+
+
+def encode(code, message, codeword):
+    """1 2 3 4 5 6"""
+    refusal = code_refusal(code)
+    if refusal:
+        return refusal
+    if len(message) != code.k or len(codeword) != code.n:
+        return 5
+    if not symbols_fit(code, message):
+        return 6
+    codeword[:] = bytes(evaluate(code, message, point(code, p)) for p in range(code.n))
+    return 0
+
+
+def lagrange(field, xs, x):
+    """For each of xs the value at x of the polynomial that is 1 there and 0 at the others."""
+    weights = []
+    for a in xs:
+        w = 1
+        for b in xs:
+            if b != a:
+                w = mul(field, w, mul(field, sub(field, x, b), inverse(field, sub(field, a, b))))
+        weights.append(w)
+    return weights
+
+
+@lru_cache(maxsize=4096)
+def repair_weights(code, slot):
+    xs = [point(code, p) for p in mates(code, slot)]
+    return lagrange(code.field, xs, point(code, slot))
+
+
+def repaired(code, slot, symbols):
+    """The value at the slot's point of the polynomial of degree below r through the mates."""
+    total = 0
+    for w, s in zip(repair_weights(code, slot), symbols):
+        total = add(code.field, total, mul(code.field, w, s))
+    return total
+
+
+def weights(code, slot, out):
+    """1 2 3 4 5 7"""
+    refusal = code_refusal(code)
+    if refusal:
+        return refusal
+    if len(out) != MOST_WEIGHTS:
+        return 5
+    if not slot < code.n:
+        return 7
+    found = repair_weights(code, slot)
+    out[:] = bytes(found + [0] * (MOST_WEIGHTS - len(found)))
+    return 0
+
+
+def repair(code, slot, symbols):
+    """1 2 3 4 5 7 6; the value is the slot's symbol."""
+    refusal = code_refusal(code)
+    if refusal:
+        return refusal, 0
+    if len(symbols) != code.r:
+        return 5, 0
+    if not slot < code.n:
+        return 7, 0
+    if not symbols_fit(code, symbols):
+        return 6, 0
+    return 0, repaired(code, slot, symbols)
+
+
+def rebuild(code, slot, strips, out):
+    """1 2 3 4 5 7 6"""
+    refusal = code_refusal(code)
+    if refusal:
+        return refusal
+    columns = len(out)
+    if not 1 <= columns <= MOST_STRIP or len(strips) != code.r * columns:
+        return 5
+    if not slot < code.n:
+        return 7
+    if not symbols_fit(code, strips):
+        return 6
+    out[:] = bytes(repaired(code, slot, strips[c::columns]) for c in range(columns))
+    return 0
+
+
+def view(code, slot, word):
+    """1 2 3 4 5 7; the value is the first slot of the group."""
+    refusal = code_refusal(code)
+    if refusal:
+        return refusal, 0
+    if len(word) != code.n:
+        return 5, 0
+    if not slot < code.n:
+        return 7, 0
+    return 0, members(code, group(code, slot))[0]
+
+
+def losses(code, marks, g):
+    """The lost slots of a group."""
+    return [p for p in members(code, g) if marks[p] == 1]
+
+
+def local_pass(code, word, marks):
+    """1 2 3 4 5 8 6; the value is the number of groups repaired."""
+    refusal = code_refusal(code)
+    if refusal:
+        return refusal, 0
+    if len(word) != code.n or len(marks) != code.n:
+        return 5, 0
+    if not marks_fit(marks):
+        return 8, 0
+    lost = [losses(code, marks, g) for g in range(groups(code))]
+    single = [slots[0] for slots in lost if len(slots) == 1]
+    if not all(symbols_fit(code, [word[p] for p in mates(code, s)]) for s in single):
+        return 6, 0
+    for s in single:
+        word[s] = repaired(code, s, [word[p] for p in mates(code, s)])
+        marks[s] = 0
+    return 0, len(single)
+
+
+# Decoding ----------------------------------------------------------------------------------------
+
+
+@lru_cache(maxsize=None)
+def multiples(field, c):
+    """Byte a to c times a, for bytes.translate; bytes that are no symbols go to 0."""
+    q = order(field)
+    return bytes(mul(field, c, a) if a < q else 0 for a in range(256))
+
+
+def add_rows(field, a, b):
+    if field == 0:
+        return bytes((x + y) % 13 for x, y in zip(a, b))
+    return (int.from_bytes(a, "big") ^ int.from_bytes(b, "big")).to_bytes(len(a), "big")
+
+
+def eliminate(field, rows, unknowns):
+    """Gauss-Jordan elimination of rows of coefficients and a constant.
+
+    FOREIGN where no solution is, UNDECIDED where there are several; else DECIDED and the solution.
+    """
+    rows, rank, minus_one = list(rows), 0, sub(field, 0, 1)
+    for column in range(unknowns):
+        pivot = next((i for i in range(rank, len(rows)) if rows[i][column]), None)
+        if pivot is None:
+            continue
+        rows[rank], rows[pivot] = rows[pivot], rows[rank]
+        rows[rank] = rows[rank].translate(multiples(field, inverse(field, rows[rank][column])))
+        for i in range(len(rows)):
+            if i != rank and rows[i][column]:
+                factor = mul(field, minus_one, rows[i][column])
+                rows[i] = add_rows(field, rows[i], rows[rank].translate(multiples(field, factor)))
+        rank += 1
+    if any(row[unknowns] for row in rows[rank:]):
+        return FOREIGN, None
+    if rank < unknowns:
+        return UNDECIDED, None
+    return DECIDED, bytes(row[unknowns] for row in rows[:unknowns])
+
+
+def solve(code, word, marks):
+    """The outcome over all kept equations, and the message where it is decided."""
+    rows = []
+    for p in range(code.n):
+        if marks[p] == 0:
+            x = point(code, p)
+            row = [power(code.field, x, exponent(code, m)) for m in range(code.k)]
+            rows.append(bytes(row + [word[p]]))
+    return eliminate(code.field, rows, code.k)
+
+
+def decode_refusal(code, word, marks, message, work):
+    """1 2 3 4 5 8 6, as decode and record ask them."""
+    refusal = code_refusal(code)
+    if refusal:
+        return refusal
+    if len(word) != code.n or len(marks) != code.n or len(message) != code.k:
+        return 5
+    if len(work) < code.n * (code.k + 1):
+        return 5
+    if not marks_fit(marks):
+        return 8
+    if not symbols_fit(code, [s for s, m in zip(word, marks) if m == 0]):
+        return 6
+    return 0
+
+
+def decode(code, word, marks, message, work):
+    """1 2 3 4 5 8 6 9 10"""
+    refusal = decode_refusal(code, word, marks, message, work)
+    if refusal:
+        return refusal
+    outcome, solution = solve(code, word, marks)
+    used = code.n * (code.k + 1)
+    work[:used] = bytes(used)
+    if outcome == DECIDED:
+        message[:] = solution
+    return outcome
+
+
+def first_crowded(code, marks):
+    """The first group with two or more losses, or 255."""
+    crowded = [g for g in range(groups(code)) if len(losses(code, marks, g)) >= 2]
+    return crowded[0] if crowded else NO_GROUP
+
+
+def graded(code, marks):
+    lost = sum(marks)
+    if lost == 0:
+        return 0
+    if first_crowded(code, marks) == NO_GROUP:
+        return 1
+    return 2 if lost <= guarantee(code) else 3
+
+
+def grade(code, marks):
+    """1 2 3 4 5 8; the value is the grade."""
+    refusal = code_refusal(code)
+    if refusal:
+        return refusal, 0
+    if len(marks) != code.n:
+        return 5, 0
+    if not marks_fit(marks):
+        return 8, 0
+    return 0, graded(code, marks)
+
+
+def record(code, word, marks, message, work, out):
+    """1 2 3 4 5 8 6; out: field r n k lost sure grade first outcome."""
+    refusal = code_refusal(code)
+    if refusal:
+        return refusal
+    if len(out) != 9:
+        return 5
+    refusal = decode_refusal(code, word, marks, message, work)
+    if refusal:
+        return refusal
+    outcome = decode(code, word, marks, message, work)
+    counts = [sum(marks), guarantee(code), graded(code, marks), first_crowded(code, marks)]
+    out[:] = [*code, *counts, outcome]
+    return 0
+
+
+# Stripe sheet and report -------------------------------------------------------------------------
+
+
+def read_sheet(sheet, word, marks, out):
+    """5 11 12 1 2 3 4 13 14 6 15; out: field r n k."""
+    if len(word) < SHEET_BUFFER or len(marks) < SHEET_BUFFER or len(out) != 4:
+        return 5
+    if len(sheet) % 4:
+        return 11
+    rows = [int.from_bytes(sheet[i : i + 4], "big") for i in range(0, len(sheet), 4)]
+    if not rows or rows[0] >> 28 != 1:
+        return 12
+    head = rows[0]
+    code = Code(head >> 24 & 15, head >> 16 & 255, head >> 8 & 255, head & 255)
+    refusal = code_refusal(code)
+    if refusal:
+        return refusal
+    if len(rows) != code.n + 2:
+        return 13
+    middle, last = rows[1:-1], rows[-1]
+    for slot, row in enumerate(middle):
+        kept = row & ~0xFF == 2 << 28 | slot << 8
+        lost = row == 3 << 28 | slot << 8
+        if not (kept or lost):
+            return 14
+    if not symbols_fit(code, [row & 255 for row in middle if row >> 28 == 2]):
+        return 6
+    if last != 4 << 28 | code.n:
+        return 15
+    word[: code.n] = bytes(row & 255 if row >> 28 == 2 else 0 for row in middle)
+    marks[: code.n] = bytes(0 if row >> 28 == 2 else 1 for row in middle)
+    out[:] = code
+    return 0
+
+
+def write_sheet(code, word, marks, sheet):
+    """1 2 3 4 5 8 6"""
+    refusal = code_refusal(code)
+    if refusal:
+        return refusal
+    if len(word) != code.n or len(marks) != code.n or len(sheet) != 4 * (code.n + 2):
+        return 5
+    if not marks_fit(marks):
+        return 8
+    if not symbols_fit(code, [s for s, m in zip(word, marks) if m == 0]):
+        return 6
+    rows = [1 << 28 | code.field << 24 | code.r << 16 | code.n << 8 | code.k]
+    rows += [3 << 28 | p << 8 if marks[p] else 2 << 28 | p << 8 | word[p] for p in range(code.n)]
+    rows.append(4 << 28 | code.n)
+    sheet[:] = b"".join(row.to_bytes(4, "big") for row in rows)
+    return 0
+
+
+def report_text(data):
+    """What the report program writes for this input."""
+    word, marks, out = bytearray(SHEET_BUFFER), bytearray(SHEET_BUFFER), [0] * 4
+    refusal = read_sheet(data[:REPORT_INPUT], word, marks, out)
+    if refusal:
+        return f"refused {refusal}\n"
+    code = Code(*out)
+    message, work, fields = bytearray(code.k), bytearray(code.n * (code.k + 1)), [0] * 9
+    record(code, word[: code.n], marks[: code.n], message, work, fields)
+    lost, sure, level, first, outcome = fields[4:]
+    answer = ["message", *message] if outcome == DECIDED else ["refused", outcome]
+    lines = [["code", *code], ["lost", lost, "sure", sure, "grade", level, "first", first], answer]
+    return "".join(" ".join(map(str, line)) + "\n" for line in lines)
+
+
+def report(data, text):
+    """5; the value is the length of the text. A refused sheet is no refusal of the call."""
+    if len(text) < REPORT_TEXT:
+        return 5, 0
+    written = report_text(data).encode()
+    text[: len(written)] = written
+    return 0, len(written)

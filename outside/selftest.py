@@ -1,0 +1,268 @@
+"""Checks the reference: the paper's worked cases, and brute force over small codes of thirteen.
+
+    python3 outside/selftest.py
+"""
+
+import itertools
+import random
+from pathlib import Path
+
+import reference as ref
+from reference import Code
+
+N = Code(0, 2, 9, 4)
+ONES = bytes([1, 1, 1, 1])
+ONES_WORD = bytes([4, 8, 7, 1, 11, 2, 0, 0, 0])
+
+
+def encoded(code, message):
+    word = bytearray(code.n)
+    assert ref.encode(code, bytes(message), word) == 0
+    return bytes(word)
+
+
+def marked(n, lost):
+    return bytes(1 if p in lost else 0 for p in range(n))
+
+
+def decoded(code, word, marks):
+    """Decode's answer and message; the work buffer's rule is tested on the way."""
+    message, used = bytearray(b"\xaa" * code.k), code.n * (code.k + 1)
+    work = bytearray(b"\xbb" * (used + 3))
+    refusal = ref.decode(code, word, marks, message, work)
+    assert work == bytes(used) + b"\xbb" * 3
+    assert refusal == 0 or message == b"\xaa" * code.k
+    return refusal, bytes(message)
+
+
+def sheet(text):
+    return bytes.fromhex(text)
+
+
+def test_fields():
+    assert ref.mul(1, 128, 2) == 29
+    for field in (0, 1):
+        q = ref.order(field)
+        powers = [ref.power(field, 2, e) for e in range(q)]
+        assert sorted(powers[:-1]) == list(range(1, q)) and powers[-1] == 1
+        assert all(ref.mul(field, a, ref.inverse(field, a)) == 1 for a in range(1, q))
+
+
+def test_code_numbers():
+    refusal = ref.code_refusal
+    assert refusal(Code(0, 2, 9, 6)) == 0
+    assert refusal(Code(0, 2, 9, 7)) == 4 and refusal(Code(0, 2, 9, 0)) == 4
+    assert refusal(Code(0, 2, 12, 4)) == 0
+    assert refusal(Code(0, 2, 10, 4)) == 3 and refusal(Code(0, 2, 15, 4)) == 3
+    assert refusal(Code(0, 4, 10, 4)) == 2 and refusal(Code(1, 4, 10, 4)) == 0
+    largest = Code(1, 16, 255, 240)
+    assert refusal(largest) == 0 and ref.guarantee(largest) == 1
+    assert refusal(Code(2, 2, 9, 4)) == 1
+    legal = [[r for r in range(40) if refusal(Code(f, r, r + 1, 1)) == 0] for f in (0, 1)]
+    assert legal == [[1, 2, 3, 5, 11], [2, 4, 14, 16]]
+
+
+def test_classroom():
+    assert [ref.point(N, p) for p in range(9)] == [1, 3, 9, 2, 6, 5, 4, 12, 10]
+    assert encoded(N, ONES) == ONES_WORD
+    assert ref.repair(N, 0, bytes([8, 7])) == (0, 4)
+    assert ref.guarantee(N) == 4
+    assert decoded(N, ONES_WORD, marked(9, range(4))) == (0, ONES)
+    assert ref.grade(N, marked(9, range(4))) == (0, 2)
+    assert decoded(N, ONES_WORD, marked(9, [2, 5, 6, 7, 8])) == (0, ONES)
+    assert ref.grade(N, marked(9, [2, 5, 6, 7, 8])) == (0, 3)
+    assert decoded(N, ONES_WORD, marked(9, range(4, 9)))[0] == 10
+    assert decoded(N, ONES_WORD[:8] + b"\1", bytes(9))[0] == 9
+    assert decoded(N, ONES_WORD, bytes([1] * 9))[0] == 10
+    assert ref.repair(Code(0, 2, 3, 1), 0, bytes([5, 7])) == (0, 0)
+
+
+def test_sighted_cases():
+    """Cases that see the order of the message, and bytes."""
+    assert encoded(N, [1, 2, 3, 4]) == bytes([10, 9, 6, 2, 8, 0, 3, 0, 4])
+    word = encoded(Code(0, 3, 12, 7), [1, 2, 3, 4, 5, 6, 7])
+    assert word == bytes([2, 7, 1, 12, 12, 4, 9, 6, 1, 0, 2, 8])
+    word = encoded(Code(1, 2, 9, 5), [1, 2, 3, 4, 255])
+    assert word == bytes([251, 51, 53, 108, 244, 176, 97, 1, 125])
+    code, out = Code(1, 4, 10, 3), bytearray(16)
+    assert ref.weights(code, 7, out) == 0 and out == bytes([146, 221, 10, 68] + [0] * 12)
+    assert ref.repair(code, 7, bytes([10, 200, 30, 140])) == (0, 246)
+
+
+def read(data):
+    word, marks, code = bytearray(b"\xcc" * 255), bytearray(b"\xdd" * 256), [7] * 4
+    refusal = ref.read_sheet(data, word, marks, code)
+    if refusal:
+        assert word == b"\xcc" * 255 and marks == b"\xdd" * 256 and code == [7] * 4
+    return refusal
+
+
+def test_sheets():
+    assert read(b"") == 12 and read(bytes(5)) == 11
+    example = sheet("10020301 20000005 30000100 20000205 40000003")
+    assert read(example) == 0
+    text = "code 0 2 3 1\nlost 1 sure 2 grade 1 first 255\nmessage 5\n"
+    assert ref.report_text(example) == text
+    assert read(sheet("12020301")) == 1 and read(sheet("10040301")) == 2
+    assert read(sheet("10020401")) == 3 and read(sheet("10020303")) == 4
+    assert read(example + bytes(4)) == 13 and read(example[:-4]) == 13
+    for changed in ("20000105", "50000005", "20010005", "30000005"):
+        assert read(example[:4] + sheet(changed) + example[8:]) == 14
+    for changed in ("40000004", "40010003", "30000003"):
+        assert read(example[:16] + sheet(changed)) == 15
+    assert read(sheet("10020301 2000000d 30000100 20000205 40000004")) == 6
+    assert read(sheet("10020301 2000000d 31000100 20000205 40000004")) == 14
+    assert ref.read_sheet(b"123", bytearray(254), bytearray(255), [0] * 4) == 5
+    assert ref.report_text(example + bytes(1009)) == "refused 11\n"
+    assert ref.report_text(example + bytes(2000)) == "refused 13\n"
+
+
+def test_report_size():
+    """The longest text: all of the largest code's symbols have three digits."""
+    code = Code(1, 16, 255, 240)
+    message = bytes(random.Random(1).randrange(100, 256) for _ in range(240))
+    data = bytearray(4 * 257)
+    assert ref.write_sheet(code, encoded(code, message), marked(255, range(0, 255, 17)), data) == 0
+    text = ref.report_text(data)
+    assert text.split("\n")[2] == "message " + " ".join(map(str, message))
+    longest = "code 1 16 255 240\nlost 255 sure 254 grade 3 first 255\nmessage" + 240 * " 255" + "\n"
+    assert len(text) == 1019 and len(longest) == 1022 <= ref.REPORT_TEXT
+
+
+def test_samples():
+    """Each sample sheet gives the text beside it."""
+    sheets = sorted(Path(__file__).parent.parent.glob("samples/*.hex"))
+    assert sheets
+    for path in sheets:
+        assert ref.report_text(sheet(path.read_text())) == path.with_suffix(".txt").read_text()
+
+
+def small_codes(most_k):
+    for r in (1, 2, 3, 5, 11):
+        for n in range(r + 1, 13, r + 1):
+            for k in range(1, min(most_k, r * n // (r + 1)) + 1):
+                yield Code(0, r, n, k)
+
+
+def all_messages(code):
+    return [bytes(m) for m in itertools.product(range(13), repeat=code.k)]
+
+
+def test_distance():
+    """Two codewords share at most k + ceil(k/r) - 2 places, and some do."""
+    for code in small_codes(3):
+        words = [encoded(code, m) for m in all_messages(code)]
+        most = code.k + -(-code.k // code.r) - 2
+        if code.k <= 2:
+            pairs = itertools.combinations(words, 2)
+        else:
+            pairs = ((words[0], w) for w in words[1:])
+        assert max(sum(map(int.__eq__, a, b)) for a, b in pairs) == most
+        assert ref.guarantee(code) == code.n - most - 1
+
+
+def test_local_repair():
+    """Every symbol of every codeword is the repair of its mates."""
+    for code in small_codes(2):
+        for message in all_messages(code):
+            word = encoded(code, message)
+            for slot in range(code.n):
+                symbols = bytes(word[p] for p in ref.mates(code, slot))
+                assert ref.repair(code, slot, symbols) == (0, word[slot])
+
+
+def test_repair_is_interpolation():
+    """Repair is the value of the polynomial of degree below r through any mates."""
+    for r in (1, 2, 3):
+        for n in range(r + 1, 13, r + 1):
+            code = Code(0, r, n, 1)
+            for slot in range(n):
+                xs = [ref.point(code, p) for p in ref.mates(code, slot)]
+                x = ref.point(code, slot)
+                for poly in itertools.product(range(13), repeat=r):
+                    *ys, y = (sum(c * a**e for e, c in enumerate(poly)) % 13 for a in [*xs, x])
+                    assert ref.repair(code, slot, bytes(ys)) == (0, y)
+
+
+def outcome_by_search(code, words, word, marks):
+    kept = [p for p in range(code.n) if not marks[p]]
+    fitting = [m for m, w in words if all(w[p] == word[p] for p in kept)]
+    if len(fitting) == 1:
+        return 0, fitting[0]
+    return (10 if fitting else 9), b"\xaa" * code.k
+
+
+def test_decode():
+    """Decode against a search of all messages: codewords, codewords with a change, random words."""
+    rng = random.Random(2)
+    for code in small_codes(2):
+        words = [(m, encoded(code, m)) for m in all_messages(code)]
+        patterns = list(itertools.product((0, 1), repeat=code.n))
+        if len(patterns) > 64:
+            patterns = rng.sample(patterns, 64)
+        for marks in map(bytes, patterns):
+            message, true = rng.choice(words)
+            changed = bytearray(true)
+            changed[rng.randrange(code.n)] = rng.randrange(13)
+            blurred = bytes(rng.randrange(256) if m else s for s, m in zip(true, marks))
+            noise = bytes(rng.randrange(13) for _ in range(code.n))
+            for word in (blurred, bytes(changed), noise):
+                assert decoded(code, word, marks) == outcome_by_search(code, words, word, marks)
+            if sum(marks) <= ref.guarantee(code):
+                assert decoded(code, blurred, marks) == (0, message)
+
+
+def test_local_pass():
+    """Groups with one loss are mended and counted; all else stays."""
+    rng = random.Random(3)
+    for code in itertools.chain(small_codes(3), [Code(1, 4, 25, 11), Code(1, 14, 45, 30)]):
+        q = ref.order(code.field)
+        true = encoded(code, [rng.randrange(q) for _ in range(code.k)])
+        marks = bytearray(rng.choices((0, 1), (3, 1), k=code.n))
+        word = bytearray(rng.randrange(256) if m else s for s, m in zip(true, marks))
+        before, left = bytes(word), bytes(marks)
+        refusal, count = ref.local_pass(code, word, marks)
+        sizes = [sum(left[p] for p in ref.members(code, g)) for g in range(ref.groups(code))]
+        assert refusal == 0 and count == sizes.count(1)
+        for p in range(code.n):
+            mended = sizes[ref.group(code, p)] == 1
+            assert word[p] == (true[p] if mended else before[p])
+            assert marks[p] == (0 if mended else left[p])
+
+
+def test_strips():
+    code, rng = Code(1, 4, 10, 7), random.Random(4)
+    words = [encoded(code, [rng.randrange(256) for _ in range(7)]) for _ in range(9)]
+    for slot in range(10):
+        strips = b"".join(bytes(w[p] for w in words) for p in ref.mates(code, slot))
+        out = bytearray(9)
+        assert ref.rebuild(code, slot, strips, out) == 0
+        assert out == bytes(w[slot] for w in words)
+
+
+def test_order():
+    """Several faults at once: the first question that fails answers."""
+    word, marks, work = bytearray(b"\x0d" * 9), bytearray(b"\2" * 9), bytearray(45)
+    assert ref.repair(N, 99, b"\x0d") == (5, 0)
+    assert ref.repair(N, 99, b"\x0d\x0d") == (7, 0)
+    assert ref.repair(N, 8, b"\x0d\x0d") == (6, 0)
+    assert ref.decode(N, word, marks, bytearray(4), work) == 8
+    assert ref.decode(N, word, bytes(9), bytearray(4), work) == 6
+    assert ref.decode(N, word, marks, bytearray(4), bytearray(44)) == 5
+    assert ref.local_pass(N, word, bytearray(9)) == (0, 0)
+    assert ref.local_pass(N, word, bytearray(b"\1" + bytes(8))) == (6, 0)
+    assert ref.write_sheet(N, word, marks, bytearray(44)) == 8
+    assert ref.view(N, 9, bytes(8)) == (5, 0) and ref.view(N, 9, word) == (7, 0)
+    assert ref.view(N, 5, word) == (0, 3)
+
+
+def main():
+    tests = [(name, run) for name, run in globals().items() if name.startswith("test_")]
+    for name, run in tests:
+        run()
+        print("ok", name)
+    print(len(tests), "passed")
+
+
+if __name__ == "__main__":
+    main()
