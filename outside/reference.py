@@ -21,7 +21,7 @@ MOST_WEIGHTS = 16
 MOST_STRIP = 4096
 SHEET_BUFFER = 255  # least length of the sheet reader's word and marks
 REPORT_INPUT = 1032
-REPORT_TEXT = 1024  # least length of the report's text buffer
+REPORT_TEXT = 1032  # least length of the report's text buffer
 NO_GROUP = 255
 DECIDED, FOREIGN, UNDECIDED = 0, 9, 10
 

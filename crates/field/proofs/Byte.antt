@@ -27,7 +27,7 @@ zero-⊕ {a} h = xor-comm 8 0 a ∙ xor-zero 8 a h
 left-comm : (a b c : ℕ) → a ⊕ (b ⊕ c) ≡ b ⊕ (a ⊕ c)
 left-comm a b c = sym (xor-assoc 8 a b c) ∙ ap (λ n. n ⊕ c) (xor-comm 8 a b) ∙ xor-assoc 8 b a c
 
-interchange : (a b c d : ℕ) → (a ⊕ b) ⊕ (c ⊕ d) ≡ (a ⊕ c) ⊕ (b ⊕ d)
+pub interchange : (a b c d : ℕ) → (a ⊕ b) ⊕ (c ⊕ d) ≡ (a ⊕ c) ⊕ (b ⊕ d)
 interchange a b c d = xor-assoc 8 a b (c ⊕ d) ∙ ap (λ n. a ⊕ n) (left-comm b c d) ∙ sym (xor-assoc 8 a c (b ⊕ d))
 
 -- a bit's choice
@@ -50,7 +50,7 @@ pick-bits : (k a b c : ℕ) → a < 256 → pick (xor-from (suc k) b c % 2) a �
 pick-bits k a b c h =
     ap (λ n. pick n a) (xor-bit k b c ∙ add-mod b c 2) ∙ pick-xor (b % 2) (c % 2) a (mod-lt b two) (mod-lt c two) h
 
-times-step : (k a b : ℕ) → times-from (suc k) a b ≡ pick (b % 2) a ⊕ times-from k (doubled a) (b / 2)
+pub times-step : (k a b : ℕ) → times-from (suc k) a b ≡ pick (b % 2) a ⊕ times-from k (doubled a) (b / 2)
 unfolding times-from
 times-step k a b = refl
 
@@ -62,7 +62,7 @@ pub times-below : (k a b : ℕ) → times-from k a b < 256
 times-below zero a b = rw times-none (omega arith)
 times-below (suc k) a b = rw times-step (⊕-below (pick (b % 2) a) (times-from k (doubled a) (b / 2)))
 
-double-below : (a : ℕ) → a < 256 → doubled a < 256
+pub double-below : (a : ℕ) → a < 256 → doubled a < 256
 unfolding doubled
 double-below a h = go (ltb a 128) refl
   where
@@ -94,14 +94,14 @@ double-is b h = eqb→eq (times-from 8 2 b) (doubled b) (every-at (λ b. eqb (ti
 pub one-times : (b : ℕ) → b < 256 → times-from 8 1 b ≡ b
 one-times b h = eqb→eq (times-from 8 1 b) b (every-at (λ b. eqb (times-from 8 1 b) b) 256 one-test b h)
 
-double-adds : (a b : ℕ) → a < 256 → b < 256 → doubled (a ⊕ b) ≡ doubled a ⊕ doubled b
+pub double-adds : (a b : ℕ) → a < 256 → b < 256 → doubled (a ⊕ b) ≡ doubled a ⊕ doubled b
 double-adds a b h l =
     sym (double-is (a ⊕ b) (⊕-below a b)) ∙ times-right 8 2 a b (lit< tt) ∙ ap₂ _⊕_ (double-is a h) (double-is b l)
 
-record Linear (f : ℕ → ℕ) : Type 0 where
-  below : (x : ℕ) → x < 256 → f x < 256
-  adds : (x y : ℕ) → x < 256 → y < 256 → f (x ⊕ y) ≡ f x ⊕ f y
-  doubles : (x : ℕ) → x < 256 → f (doubled x) ≡ doubled (f x)
+pub record Linear (f : ℕ → ℕ) : Type 0 where
+  pub below : (x : ℕ) → x < 256 → f x < 256
+  pub adds : (x y : ℕ) → x < 256 → y < 256 → f (x ⊕ y) ≡ f x ⊕ f y
+  pub doubles : (x : ℕ) → x < 256 → f (doubled x) ≡ doubled (f x)
 
 pick-below : (t : Bool) {a : ℕ} → a < 256 → cond t a 0 < 256
 pick-below true h = h
@@ -116,7 +116,7 @@ module _ (f : ℕ → ℕ) (L : Linear f) where
   picks true a = refl
   picks false a = fixes-zero
 
-  commutes : (k a b : ℕ) → a < 256 → f (times-from k a b) ≡ times-from k (f a) b
+  pub commutes : (k a b : ℕ) → a < 256 → f (times-from k a b) ≡ times-from k (f a) b
   commutes zero a b h = rw (times-none a b, times-none (f a) b) fixes-zero
   commutes (suc k) a b h =
       ap f (times-step k a b)
@@ -137,7 +137,7 @@ times-left (suc k) a b c h l =
     ∙ interchange (pick (c % 2) a) (pick (c % 2) b) (times-from k (doubled a) (c / 2)) (times-from k (doubled b) (c / 2))
     ∙ ap₂ _⊕_ (sym (times-step k a c)) (sym (times-step k b c))
 
-linear-double : Linear doubled
+pub linear-double : Linear doubled
 linear-double = record { below = double-below; adds = double-adds; doubles = λ x h. refl }
 
 linear-times : (b : ℕ) → Linear (λ a. times-from 8 a b)

@@ -174,8 +174,8 @@ fn column_of(strips: &[u8], r: usize, l: usize, i: usize) -> [u8; 16]
     symbols
 }
 
-// Writes to each place of output the sum of weight times symbol over its column of the strips.
-fn rebuild_columns(
+// Writes to each place of output the sum of weight times symbol over its column of the strips, column by column.
+fn plain_columns(
     field: u32,
     weights: &[u8; 16],
     r: usize,
@@ -194,6 +194,26 @@ fn rebuild_columns(
         output[i] = field::dot(field, weights, &column, r, powers, logs);
         i += 1;
     }
+}
+
+// Writes to each place of output the sum of weight times symbol over its column of the strips; over bytes by the kernel.
+fn rebuild_columns(
+    field: u32,
+    weights: &[u8; 16],
+    r: usize,
+    strips: &[u8],
+    output: &mut [u8],
+    powers: &[u8; 255],
+    logs: &[u8; 256],
+)
+    requires { ⌜ Powers 1 (now powers) × Logs (now logs) × (r ≤ 16) × (r ≤ length (now weights)) × (length (now output) ≤ 4096) × (length (now strips) ≡ r * length (now output)) ⌝ }
+    ensures { λ _. ⌜ now (output .exit) ≡ tabulate (λ i. dotted field (take r (now (weights .entry))) (column r (length (now (output .entry))) i (now (strips .entry)))) (length (now (output .entry))) ⌝ }
+{
+    if field == 0 {
+        plain_columns(field, weights, r, strips, output, powers, logs);
+        return;
+    }
+    kernel::combine(weights, r, strips, output);
 }
 
 // Rebuilds a strip from its mates' strips laid end to end.

@@ -14,3 +14,10 @@ pub fn put_line(bytes: &[u8]) {
     }
     io::write_all(1, b"\n");
 }
+
+// The first n bytes as they are, or none where there are not so many.
+pub fn put_front(bytes: &[u8], n: usize) {
+    if n <= bytes.len() {
+        io::write_all(1, &bytes[..n]);
+    }
+}

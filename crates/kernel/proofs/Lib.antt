@@ -1,0 +1,5 @@
+pub mod Doubling
+pub mod Sum
+pub mod Products
+pub mod Rows
+pub mod Tiles

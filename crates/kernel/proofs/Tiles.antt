@@ -1,0 +1,162 @@
+-- Tiles of columns, written one after the other. Assumes nothing.
+--   length-table
+--   added-none, added-more           the first symbols of a row added to a tile
+--   horner-first, horner-next        a tile after one row, and after one more
+--   copied-none, copied-more, copied-all
+--   Spread, spread-none, spread-more
+--   tiled-of       a tile with the columns' values, copied
+--   rebuilt-none, rebuilt-more, rebuilt-all
+--   combined-of    all columns rebuilt by a plan
+--   combined-spread    short strips by way of wider ones
+use mathlib.Core.Path.{_≡_, refl, sym, ap, ap₂, _∙_}
+use mathlib.Core.Logic.{_⊎_, ⊎-elim}
+use mathlib.Core.List.{List}
+use Prim.Native.Nat.{ℕ, suc, _+_, _*_, _-_, _≤_, _<_}
+use native.Mathlib.Decide.{ℕ-discrete}
+use native.Mathlib.Nat.{zero-add, add-assoc}
+use native.Mathlib.Numerals.{add-one}
+use native.Mathlib.Omega.{arith}
+use lib.ListN.{length, take, set, length-set, replicate, length-replicate, getD-replicate}
+use lib.Seq.{getD-set-same, getD-set-other}
+use Rattle.algebra.specs.Sequence.{at, tabulate}
+use Rattle.algebra.proofs.Sequence.{length-tabulate, at-tabulate, tabulate-is, tabulate-same}
+use Rattle.field.specs.Field.{xor-from, doubled}
+use Rattle.field.specs.Polynomial.{dotted}
+use Rattle.code.specs.Repair.{column}
+use Rattle.kernel.specs.Columns.{Combined}
+use Rattle.kernel.specs.Plan.{sum, row-symbol, horner, Planned, Copied, Tiled, Rebuilt}
+use Rattle.kernel.proofs.Products.{horner-none, horner-more, horner-all}
+use Rattle.kernel.proofs.Sum.{sum-none, sum-more}
+
+-- entry i of a list that is a table
+at-table : (f : ℕ → ℕ) (n i : ℕ) (t : List ℕ) → t ≡ tabulate f n → i < n → at t i ≡ f i
+at-table f n i t e h = ap (λ l. at l i) e ∙ at-tabulate f 0 n i h
+
+pub length-table : (f : ℕ → ℕ) (n : ℕ) (t : List ℕ) → t ≡ tabulate f n → length t ≡ n
+length-table f n t e = ap (λ l. length l) e ∙ length-tabulate f n
+
+module _ (xs os : List ℕ) (m c : ℕ) (t : List ℕ) where
+  pub added-none : t ≡ tabulate (λ i. sum (at t i) (row-symbol xs os m (c + i)) 0) (length t)
+  added-none = tabulate-is (λ i. sum (at t i) (row-symbol xs os m (c + i)) 0) 0 (length t) t refl (λ i h. sym (sum-none (at t i) (row-symbol xs os m (c + i))))
+
+  pub added-more : (k : ℕ) (y z : List ℕ) → y ≡ tabulate (λ i. sum (at t i) (row-symbol xs os m (c + i)) k) (length t)
+      → z ≡ tabulate (λ i. xor-from 8 (at y i) (at xs (at os (m * 16 + k) + c + i))) (length y)
+      → z ≡ tabulate (λ i. sum (at t i) (row-symbol xs os m (c + i)) (k + 1)) (length t)
+  added-more k y z p q =
+      let s = length-table (λ i. sum (at t i) (row-symbol xs os m (c + i)) k) (length t) y p in
+      q ∙ ap (tabulate (λ i. xor-from 8 (at y i) (at xs (at os (m * 16 + k) + c + i)))) s
+      ∙ tabulate-same 0 (λ i. xor-from 8 (at y i) (at xs (at os (m * 16 + k) + c + i))) (λ i. sum (at t i) (row-symbol xs os m (c + i)) (k + 1)) (length t)
+      (λ i h. ap₂ (xor-from 8) (at-table (λ i. sum (at t i) (row-symbol xs os m (c + i)) k) (length t) i y p h) (ap (at xs) (add-assoc (at os (m * 16 + k)) c i))
+      ∙ sym (ap (sum (at t i) (row-symbol xs os m (c + i))) (add-one k) ∙ sum-more (at t i) (row-symbol xs os m (c + i)) k))
+
+abbrev pub zeros : ℕ → List ℕ
+zeros n = replicate n 0
+
+module _ (xs os ns : List ℕ) (c n : ℕ) where
+  -- row m added to a tile of the doubled values
+  next : (m : ℕ) (y z : List ℕ) → length y ≡ n → ((i : ℕ) → i < n → at y i ≡ doubled (horner xs os ns (c + i) m))
+      → z ≡ tabulate (λ i. sum (at y i) (row-symbol xs os m (c + i)) (at ns m)) (length y)
+      → z ≡ tabulate (λ i. horner xs os ns (c + i) (suc m)) n
+  next m y z s d q =
+      q ∙ ap (tabulate (λ i. sum (at y i) (row-symbol xs os m (c + i)) (at ns m))) s
+      ∙ tabulate-same 0 (λ i. sum (at y i) (row-symbol xs os m (c + i)) (at ns m)) (λ i. horner xs os ns (c + i) (suc m)) n
+      (λ i h. ap (λ a. sum a (row-symbol xs os m (c + i)) (at ns m)) (d i h) ∙ sym (horner-more xs os ns (c + i) m))
+
+  pub horner-first : (z : List ℕ) → z ≡ tabulate (λ i. sum (at (zeros n) i) (row-symbol xs os 0 (c + i)) (at ns 0)) (length (zeros n))
+      → z ≡ tabulate (λ i. horner xs os ns (c + i) 1) n
+  horner-first z q =
+      let d : doubled 0 ≡ 0 = unfold doubled in refl in
+      next 0 (zeros n) z (length-replicate n 0)
+      (λ i h. getD-replicate n i 0 0 h ∙ sym (ap doubled (horner-none xs os ns (c + i)) ∙ d)) q
+
+  pub horner-next : (m : ℕ) (x y z : List ℕ) → x ≡ tabulate (λ i. horner xs os ns (c + i) m) n
+      → y ≡ tabulate (λ i. doubled (at x i)) (length x)
+      → z ≡ tabulate (λ i. sum (at y i) (row-symbol xs os m (c + i)) (at ns m)) (length y)
+      → z ≡ tabulate (λ i. horner xs os ns (c + i) (m + 1)) n
+  horner-next m x y z p q e =
+      let s : length x ≡ n = length-table (λ i. horner xs os ns (c + i) m) n x p in
+      next m y z (length-table (λ i. doubled (at x i)) (length x) y q ∙ s)
+      (λ i h. at-table (λ i. doubled (at x i)) (length x) i y q (omega arith) ∙ ap doubled (at-table (λ i. horner xs os ns (c + i) m) n i x p h)) e
+      ∙ ap (λ k. tabulate (λ i. horner xs os ns (c + i) k) n) (sym (add-one m))
+
+module _ (xs : List ℕ) (from : ℕ) (a : List ℕ) (to : ℕ) where
+  pub copied-none : Copied 0 xs from a to a
+  copied-none = record { size = refl; before = λ i h. refl; new = λ i h. absurd (omega arith) }
+
+  pub copied-all : (m n : ℕ) (z : List ℕ) → m ≡ n → Copied m xs from a to z → Copied n xs from a to z
+  copied-all m n z e C = record { size = C .size; before = C .before; new = λ i h. C .new i (omega arith) }
+
+  pub copied-more : (n : ℕ) (z : List ℕ) → to + n < length z → Copied n xs from a to z → Copied (n + 1) xs from a to (set z (to + n) (at xs (from + n)))
+  copied-more n z h C =
+      record {
+        size = length-set z (to + n) (at xs (from + n)) ∙ C .size;
+        before = λ i l. getD-set-other z (to + n) i (at xs (from + n)) 0 (λ p. omega arith) ∙ C .before i l;
+        new = λ i l. go i l (ℕ-discrete i n);
+      }
+    where
+      go : (i : ℕ) → i < n + 1 → Dec (i ≡ n) → at (set z (to + n) (at xs (from + n))) (to + i) ≡ at xs (from + i)
+      go i l (yes p) = rw p (getD-set-same z (to + n) (at xs (from + n)) 0 h)
+      go i l (no q) = getD-set-other z (to + n) (to + i) (at xs (from + n)) 0 (λ p. q (omega arith)) ∙ C .new i (omega arith)
+
+-- strips of l symbols laid out at every 64th place: those below j
+pub record Spread (xs : List ℕ) (l j : ℕ) (a z : List ℕ) : Type 0 where
+  pub size : length z ≡ length a
+  pub done : (k i : ℕ) → k < j → i < l → at z (k * 64 + i) ≡ at xs (k * l + i)
+
+pub spread-none : (xs : List ℕ) (l : ℕ) (a : List ℕ) → Spread xs l 0 a a
+spread-none xs l a = record { size = refl; done = λ k i h g. absurd (omega arith) }
+
+pub spread-more : (xs : List ℕ) (l j : ℕ) (a y z : List ℕ) → l ≤ 64 → Spread xs l j a y → Copied l xs (j * l) y (j * 64) z → Spread xs l (j + 1) a z
+spread-more xs l j a y z b S C = record { size = C .size ∙ S .size; done = λ k i h g. go k i h g (ℕ-discrete k j) }
+  where
+    go : (k i : ℕ) → k < j + 1 → i < l → Dec (k ≡ j) → at z (k * 64 + i) ≡ at xs (k * l + i)
+    go k i h g (yes p) = rw p (C .new i g)
+    go k i h g (no n) = let s : k < j = omega arith in C .before (k * 64 + i) (omega arith) ∙ S .done k i s g
+
+module _ (xs os ns : List ℕ) where
+  pub tiled-of : (n c : ℕ) (t a z : List ℕ) → t ≡ tabulate (λ i. horner xs os ns (c + i) 8) n → Copied n t 0 a c z → Tiled n xs os ns c a z
+  tiled-of n c t a z e C =
+      record {
+        size = C .size;
+        before = C .before;
+        new = λ i h. C .new i h ∙ ap (at t) (zero-add i) ∙ ap (λ l. at l i) e ∙ at-tabulate (λ i. horner xs os ns (c + i) 8) 0 n i h;
+      }
+
+  pub rebuilt-none : (a : List ℕ) → Rebuilt xs os ns 0 a a
+  rebuilt-none a = record { size = refl; done = λ p h g. absurd (omega arith) }
+
+  pub rebuilt-all : (c d : ℕ) (a z : List ℕ) → d ≤ c → Rebuilt xs os ns c a z → Rebuilt xs os ns d a z
+  rebuilt-all c d a z e R = record { size = R .size; done = λ p h g. R .done p (omega arith) g }
+
+  -- a tile at c, or before it at the end
+  pub rebuilt-more : (n b c : ℕ) (a y z : List ℕ) → b ≤ c → (b ≡ c) ⊎ (b ≡ length a - n) → Rebuilt xs os ns c a y → Tiled n xs os ns b y z → Rebuilt xs os ns (c + n) a z
+  rebuilt-more n b c a y z h w R T =
+      record { size = T .size ∙ R .size; done = λ p g l. go p l (ends p g l) (ℕ-discrete p (b + (p - b))) }
+    where
+      ends : (p : ℕ) → p < c + n → p < length a → p < b + n
+      ends p g l = ⊎-elim (λ e. omega arith) (λ e. omega arith) w
+
+      go : (p : ℕ) → p < length a → p < b + n → Dec (p ≡ b + (p - b)) → at z p ≡ horner xs os ns p 8
+      go p l g (yes e) = let s : p - b < n = omega arith in ap (at z) e ∙ T .new (p - b) s ∙ ap (λ k. horner xs os ns k 8) (sym e)
+      go p l g (no e) = T .before p (omega arith) ∙ R .done p (omega arith) l
+
+pub combined-of : (ws xs os ns : List ℕ) (r : ℕ) (a z : List ℕ) → ((i : ℕ) → at xs i < 256)
+    → Planned ws (length a) os ns r → Rebuilt xs os ns (length a) a z → Combined ws r xs a z
+combined-of ws xs os ns r a z x P R f n =
+    tabulate-is (λ i. dotted f (take r ws) (column r (length a) i xs)) 0 (length a) z (R .size)
+    (λ p h. R .done p h h ∙ horner-all ws xs os ns (length a) r P x p f n)
+
+column-spread : (r l w i : ℕ) (xs ys : List ℕ) → ((j : ℕ) → j < r → at ys (j * w + i) ≡ at xs (j * l + i)) → column r w i ys ≡ column r l i xs
+unfolding column
+column-spread r l w i xs ys h = tabulate-same 0 (λ m. at ys (m * w + i)) (λ m. at xs (m * l + i)) r h
+
+-- the sums over strips laid out wider, copied
+pub combined-spread : (ws : List ℕ) (r : ℕ) (xs ys a t s z : List ℕ) → length t ≡ 64 → length a ≤ 64
+    → ((j i : ℕ) → j < r → i < length a → at ys (j * 64 + i) ≡ at xs (j * length a + i))
+    → Combined ws r ys t s → Copied (length a) s 0 a 0 z → Combined ws r xs a z
+combined-spread ws r xs ys a t s z w b S K C f n =
+    tabulate-is (λ i. dotted f (take r ws) (column r (length a) i xs)) 0 (length a) z (C .size)
+    (λ i h. ap (at z) (sym (zero-add i)) ∙ C .new i h ∙ ap (at s) (zero-add i)
+    ∙ at-table (λ i. dotted f (take r ws) (column r (length t) i ys)) (length t) i s (K f n) (omega arith)
+    ∙ ap (λ k. dotted f (take r ws) (column r k i ys)) w
+    ∙ ap (dotted f (take r ws)) (column-spread r (length a) 64 i xs ys (λ j g. S j i g h)))

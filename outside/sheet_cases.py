@@ -1,0 +1,65 @@
+"""Makes crates/sheet_cases/stdin and stdout: sheets of every kind, and their reports by the reference."""
+
+import random
+import sys
+
+import reference as ref
+
+
+def sheet(code, word, marks):
+    out = bytearray(4 * (code.n + 2))
+    assert ref.write_sheet(code, word, marks, out) == 0
+    return bytes(out)
+
+
+def stripe(rng, numbers, lost):
+    """A codeword of a random message with some slots lost."""
+    code = ref.Code(*numbers)
+    message = bytes(rng.randrange(ref.order(code.field)) for _ in range(code.k))
+    word, marks = bytearray(code.n), bytearray(code.n)
+    assert ref.encode(code, message, word) == 0
+    for p in lost:
+        marks[p] = 1
+    return code, word, marks
+
+
+def changed(data, word, value):
+    """The sheet with another 32-bit word at a place."""
+    return data[: 4 * word] + value.to_bytes(4, "big") + data[4 * word + 4 :]
+
+
+def samples(rng):
+    small = (0, 2, 9, 4)
+    yield bytes.fromhex("1002030120000005300001002000020540000003")
+    yield sheet(*stripe(rng, small, range(4)))
+    yield sheet(*stripe(rng, small, [2, 5, 6, 7, 8]))
+    yield sheet(*stripe(rng, small, range(4, 9)))
+    yield sheet(*stripe(rng, (1, 16, 255, 240), [7]))
+    yield sheet(*stripe(rng, (1, 2, 255, 100), range(3, 90)))
+    good = sheet(*stripe(rng, small, []))
+    yield changed(good, 9, 2 << 28 | 8 << 8 | (good[39] + 1) % 13)  # foreign
+    yield b""  # 12
+    yield good[:5]  # 11
+    yield changed(good, 0, 2 << 28)  # 12
+    yield changed(good, 0, 0x12020904)  # 1
+    yield changed(good, 0, 0x10040904)  # 2
+    yield changed(good, 0, 0x10020A04)  # 3
+    yield changed(good, 0, 0x10020907)  # 4
+    yield good + b"\0\0\0\0"  # 13
+    yield changed(good, 3, 5 << 28 | 2 << 8)  # 14
+    yield changed(good, 3, 3 << 28 | 2 << 8 | 1)  # 14: a lost slot with a symbol
+    yield changed(good, 3, 2 << 28 | 3 << 8)  # 14: another slot's word
+    yield changed(good, 3, 2 << 28 | 2 << 8 | 13)  # 6
+    yield changed(changed(good, 3, 2 << 28 | 2 << 8 | 13), 9, 0)  # 14 before 6
+    yield changed(good, 10, 4 << 28 | 8)  # 15
+    yield changed(changed(good, 3, 2 << 28 | 2 << 8 | 13), 10, 0)  # 6 before 15
+    yield sheet(*stripe(rng, (1, 16, 255, 240), [])) + b"\0" * 8  # the first 1,032 bytes: 13
+
+
+if __name__ == "__main__":
+    folder = sys.argv[1]
+    rows = list(samples(random.Random(15)))
+    with open(folder + "/stdin", "wb") as f:
+        f.write(b"".join(len(row).to_bytes(2, "big") + row for row in rows))
+    with open(folder + "/stdout", "w") as f:
+        f.write("".join(map(ref.report_text, rows)))
