@@ -288,7 +288,7 @@ class Draft:
             "marks": rng.choice([255, 255, 256, 300]),
             "code": 16,
             "sheet": 4 * (code.n + 2),
-            "text": rng.choice([1024, 1024, 1025, 1300]),
+            "text": rng.choice([1032, 1032, 1033, 1300]),
         }[kind]
 
     def finished(self):
@@ -364,7 +364,7 @@ def fault_length(rng, draft):
     if kind == "work":
         lengths = [0, used - 1, used - draft.base.n, rng.randrange(used)]
     if kind == "text":
-        lengths = [0, 10, 1023, rng.randrange(1024)]
+        lengths = [0, 10, 1031, rng.randrange(1032)]
     if kind in ("word", "marks") and draft.name == "read_sheet":
         lengths = [0, 254, draft.base.n - 1, rng.randrange(255)]
     if kind == "strip" and rng.random() < 0.3:

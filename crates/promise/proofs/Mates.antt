@@ -1,13 +1,12 @@
 -- A word's symbols at the mates of a slot. Assumes nothing.
 --   symbols-tabulate    they are what the word holds at mate 0, 1, .. r - 1
---   symbols-same        two words that hold the same at every mate
-use mathlib.Core.Path.{_≡_, refl, sym, ap, ap₂, _∙_}
-use mathlib.Core.List.{List, [], _∷_, map}
-use Prim.Native.Nat.{ℕ, _<_}
+use mathlib.Core.Path.{_≡_, _∙_}
+use mathlib.Core.List.{List, map}
+use Prim.Native.Nat.{ℕ}
 use native.Mathlib.Omega.{arith}
 use lib.ListN.{length, length-map}
-use Rattle.algebra.specs.Sequence.{at, tabulate, Each}
-use Rattle.algebra.proofs.Sequence.{tabulate-is, at-map, map-each}
+use Rattle.algebra.specs.Sequence.{at, tabulate}
+use Rattle.algebra.proofs.Sequence.{tabulate-is, at-map}
 use Rattle.code.specs.Repair.{mates, symbols-of}
 use Rattle.code.specs.declared.Code.{Code}
 use Rattle.code.proofs.Mates.{length-mates}

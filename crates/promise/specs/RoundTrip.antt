@@ -1,8 +1,9 @@
 -- Demand 3 about the calls: what comes back of a message that was encoded and then lost in part. Assumes nothing: these are definitions.
---   after-loss    a codeword whose lost slots have come to hold other bytes
---   Handed        an accepted code, a message of k symbols below q, and buffers of their lengths
---   Decode-returns  of encode's and decode's contracts: with at most n - k - ⌈k/r⌉ + 1 slots lost, the message that encode was handed
---   Comes-back    the same of a call that does both: with at most n - k - ⌈k/r⌉ + 1 slots lost, the answer is 0 and the message is back
+--   after-loss        a codeword whose lost slots have come to hold other bytes
+--   Handed            an accepted code, a message of k symbols below q, and buffers of their lengths
+--   Decode-returns    of the contracts of encode and decode: with at most n - k - ⌈k/r⌉ + 1 slots lost, decode gives the message back
+--   Repair-returns    of those of encode and repair: from what encode wrote at the mates, repair answers what it wrote at the slot
+--   Comes-back, Restored    the same of functions that do both, by nothing but what went in and what came back
 use mathlib.Core.Path.{_≡_}
 use mathlib.Core.Bool.{true, false, cond}
 use mathlib.Core.List.{List}

@@ -1,0 +1,4 @@
+pub mod Pack
+pub mod Fill
+pub mod Record
+pub mod Sheet
