@@ -155,7 +155,8 @@ uint64_t latsefidy_grade(uint32_t field, uint32_t r, uint32_t n, uint32_t k,
                          const uint8_t *marks, size_t marks_len);
 
 /* Decodes and fills the stripe's record.
- *   word, marks, message, work   as in decode; message is unchanged where the outcome is not 0
+ *   word, marks, message, work   as in decode; message is unchanged where the outcome is not 0, and
+ *             where the answer is 0 the first n * (k + 1) bytes of work are 0 at the end
  *   record    9 numbers, written where the answer is 0:
  *             field, r, n, k, number lost, guarantee, grade, first group with two or more losses
  *             (255 if none), outcome: 0 decided, 9 foreign (no codeword agrees), 10 undecided
@@ -216,7 +217,7 @@ uint32_t latsefidy_write_sheet(uint32_t field, uint32_t r, uint32_t n, uint32_t 
 
 /* Writes what the report program prints for a sheet: its code, its losses, its message. A refused
  * sheet is no refusal of the call: its text is "refused" and the number. The text has no byte 0
- * at its end.
+ * at its end. The call takes about 64 kilobytes of stack.
  *   input     the sheet, of any length; the first 1,032 bytes are judged
  *   text      at least 1,032 bytes; the text is written at its front and the rest is unchanged
  * Returns the refusal (high) and the length of the text (low). Asked:
