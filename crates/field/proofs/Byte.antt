@@ -31,7 +31,7 @@ pub interchange : (a b c d : ℕ) → (a ⊕ b) ⊕ (c ⊕ d) ≡ (a ⊕ c) ⊕ 
 interchange a b c d = xor-assoc 8 a b (c ⊕ d) ∙ ap (λ n. a ⊕ n) (left-comm b c d) ∙ sym (xor-assoc 8 a c (b ⊕ d))
 
 -- a bit's choice
-abbrev pick : ℕ → ℕ → ℕ
+abbrev pub pick : ℕ → ℕ → ℕ
 pick n a = cond (eqb n 1) a 0
 
 pick-xor : (n m a : ℕ) → n < 2 → m < 2 → a < 256 → pick ((n + m) % 2) a ≡ pick n a ⊕ pick m a

@@ -5,5 +5,7 @@ pub mod Laws
 pub mod Generator
 pub mod Elem
 pub mod Tables
+pub mod Doubling
+pub mod Bits
 pub mod Operations
 pub mod Products

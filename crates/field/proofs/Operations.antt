@@ -49,7 +49,7 @@ minus-256 zero a b n h l = absurd (n refl)
 minus-256 (suc f) a b n h l = xor-is 8 a b h l
 
 -- every field but 0 is that of bytes
-times-256 : (f a b : ℕ) → f ≢ 0 → times f a b ≡ times 1 a b
+pub times-256 : (f a b : ℕ) → f ≢ 0 → times f a b ≡ times 1 a b
 unfolding times
 times-256 zero a b n = absurd (n refl)
 times-256 (suc f) a b n = refl

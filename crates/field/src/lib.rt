@@ -1,7 +1,7 @@
 // The two fields: tables of powers and logarithms, and the operations on symbols.
 ghost use mathlib.Core.Path.{_≡_};
 ghost use Prim.Native.Nat.{_-_, _≤_, _<_};
-ghost use Rattle.field.specs.Field.{q, γ, plus, minus, times, power, inverse};
+ghost use Rattle.field.specs.Field.{q, γ, plus, minus, times, power, inverse, doubled};
 ghost use lib.ListN.{length, take};
 ghost use Rattle.field.specs.Polynomial.{dotted};
 ghost use Rattle.field.specs.Table.{Powers, Logs};
@@ -103,6 +103,38 @@ pub fn mul_add(field: u32, a: u8, c: u8, b: u8, powers: &[u8; 255], logs: &[u8; 
 {
     let p = mul(field, c, b, powers, logs);
     add(field, a, p)
+}
+
+// X times a byte, with no branch.
+pub fn double(x: u8) -> u8
+    ensures { λ y. ⌜ y ≡ doubled x ⌝ }
+{
+    (x % 128) * 2 ^ (x / 128) * 29
+}
+
+// a * b over bytes: the sum of a, doubled i times, over the bits i of b.
+fn byte_product(a: u8, b: u8) -> u8
+    ensures { λ r. ⌜ r ≡ times 1 a b ⌝ }
+{
+    let mut multiple = a;
+    let mut sum: u8 = 0;
+    let mut i: u32 = 0;
+    while i < 8 {
+        sum = sum ^ (b >> i) % 2 * multiple;
+        multiple = double(multiple);
+        i += 1;
+    }
+    sum
+}
+
+// a * b with no table: slower than mul for one product, faster in a loop, of which the compiler makes vectors.
+pub fn product(field: u32, a: u8, b: u8) -> u8
+    ensures { λ r. ⌜ r ≡ times field a b ⌝ }
+{
+    if field == 0 {
+        return ((a as u32 * b as u32) % 13) as u8;
+    }
+    byte_product(a, b)
 }
 
 // a to the power e.

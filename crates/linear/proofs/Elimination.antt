@@ -95,17 +95,17 @@ skipped f k j a R e =
     go m h (no p) = R .zeros m (omega arith)
 
 -- row j starts at j: it takes the newcomer's first coefficient off
-module _ (f k j : ℕ) (a b : List ℕ) (hj : j < k) (R : Ready f k j a) (len : length b ≡ length a)
-    (n : entry k a j j ≢ 0) (A : Added f a b (k * (k + 1) + j) (j * (k + 1) + j) (k + 1 - j) (entry k a k j)) where
+module _ (f k j s : ℕ) (a b : List ℕ) (hj : j < k) (hs : s ≤ j) (R : Ready f k j a) (len : length b ≡ length a)
+    (n : entry k a j j ≢ 0) (A : Added f a b (k * (k + 1) + s) (j * (k + 1) + s) (k + 1 - s) (entry k a k j)) where
   hc : entry k a k j < q f
   hc = R .below j (omega arith)
 
   other : (i m : ℕ) → i ≢ k → m ≤ k → entry k b i m ≡ entry k a i m
-  other = row-others f k a b k j (entry k a k j) j A (omega arith)
+  other = row-others f k a b k j (entry k a k j) s A (omega arith)
 
   put : (m : ℕ) → m ≤ k → entry k b k m ≡ plus f (entry k a k m) (times f (entry k a k j) (entry k a j m))
   put =
-      row-put f k a b k j (entry k a k j) j A (omega arith) hc (λ m h. R .below m (omega arith)) (λ m h. R .echelon .low j m hj h)
+      row-put f k a b k j (entry k a k j) s A (omega arith) hc (λ m h. R .below m (omega arith)) (λ m h. R .echelon .low j m hj (omega arith))
 
   still : Echelon f k b
   still = echelon-kept f k a b (R .echelon) (omega (arith, len, R .echelon .room)) (λ i m p g. other i m (omega arith) g)
@@ -149,9 +149,9 @@ module _ (f k j : ℕ) (a b : List ℕ) (hj : j < k) (R : Ready f k j a) (len : 
       }
 
 -- row j is bare: it takes the newcomer
-module _ (f k j : ℕ) (a b : List ℕ) (hj : j < k) (R : Ready f k j a) (len : length b ≡ length a)
+module _ (f k j s : ℕ) (a b : List ℕ) (hj : j < k) (hs : s ≤ j) (R : Ready f k j a) (len : length b ≡ length a)
     (e : entry k a j j ≡ 0) (n : entry k a k j ≢ 0) (c : ℕ) (ec : c ≡ minus f 0 (inverse f (entry k a k j)))
-    (A : Added f a b (j * (k + 1) + j) (k * (k + 1) + j) (k + 1 - j) c) where
+    (A : Added f a b (j * (k + 1) + s) (k * (k + 1) + s) (k + 1 - s) c) where
   hh : entry k a k j < q f
   hh = R .below j (omega arith)
 
@@ -159,11 +159,11 @@ module _ (f k j : ℕ) (a b : List ℕ) (hj : j < k) (R : Ready f k j a) (len : 
   hc′ = rw ec (laws f .minus-below 0 (inverse f (entry k a k j)))
 
   other′ : (i m : ℕ) → i ≢ j → m ≤ k → entry k b i m ≡ entry k a i m
-  other′ = row-others f k a b j k c j A (omega arith)
+  other′ = row-others f k a b j k c s A (omega arith)
 
   put′ : (m : ℕ) → m ≤ k → entry k b j m ≡ plus f (entry k a j m) (times f c (entry k a k m))
   put′ =
-      row-put f k a b j k c j A (omega arith) hc′ (λ m h. R .echelon .below j m hj (omega arith)) (λ m h. R .zeros m h)
+      row-put f k a b j k c s A (omega arith) hc′ (λ m h. R .echelon .below j m hj (omega arith)) (λ m h. R .zeros m (omega arith))
 
   below′ : (i m : ℕ) → i ≤ k → m ≤ k → entry k b i m < q f
   below′ i m p g = go (ℕ-discrete i j)

@@ -19,25 +19,25 @@ pub fn clear(s: &mut [u8])
 }
 
 // The row at dst plus c times the row at src, len columns.
-fn add_row(
-    field: u32,
-    work: &mut [u8],
-    dst: usize,
-    src: usize,
-    len: usize,
-    c: u8,
-    powers: &[u8; 255],
-    logs: &[u8; 256],
-)
-    requires { ⌜ (dst + len ≤ length (now work)) × (src + len ≤ length (now work)) × Apart dst src len × Powers 1 (now powers) × Logs (now logs) ⌝ }
+fn add_row(field: u32, work: &mut [u8], dst: usize, src: usize, len: usize, c: u8)
+    requires { ⌜ (dst + len ≤ length (now work)) × (src + len ≤ length (now work)) × Apart dst src len ⌝ }
     ensures { λ r. ⌜ Added field (now (work .entry)) (now (work .exit)) dst src len c ⌝ }
 {
     let mut m: usize = 0;
     while m < len {
-        let v = field::mul_add(field, work[dst + m], c, work[src + m], powers, logs);
-        work[dst + m] = v;
+        let v = field::product(field, c, work[src + m]);
+        work[dst + m] = field::add(field, work[dst + m], v);
         m += 1;
     }
+}
+
+// The column up to j from which a row of w columns has a multiple of 32 left, or 0: vectors leave no rest.
+fn start(j: usize, w: usize) -> usize
+    requires { ⌜ j ≤ w ⌝ }
+    ensures { λ s. ⌜ s ≤ j ⌝ }
+{
+    let rest = (32 - (w - j) % 32) % 32;
+    if j < rest { 0 } else { j - rest }
 }
 
 // The factor that makes a row which starts with h start with -1.
@@ -62,18 +62,19 @@ fn step(
     ensures { λ r. ⌜ Stepped field k j (now (work .entry)) (now (work .exit)) r ⌝ }
 {
     let w = k + 1;
-    let t = k * w + j;
-    let b = j * w + j;
-    let h = work[t];
+    let h = work[k * w + j];
     if h == 0 {
         return false;
     }
-    if work[b] == 0 {
+    let s = start(j, w);
+    let t = k * w + s;
+    let b = j * w + s;
+    if work[j * w + j] == 0 {
         let c = turn(field, h, powers, logs);
-        add_row(field, work, b, t, w - j, c, powers, logs);
+        add_row(field, work, b, t, w - s, c);
         return true;
     }
-    add_row(field, work, t, b, w - j, h, powers, logs);
+    add_row(field, work, t, b, w - s, h);
     false
 }
 

@@ -1,39 +1,41 @@
-use mathlib.Core.Path.{_≡_, refl, _∙_}
+use mathlib.Core.Path.{_≡_, refl, ap, _∙_}
 use Prim.Native.Nat.{_+_, _-_, _≤_}
 use borrow.Author.Needs.{needs}
 use native.Mathlib.Omega.{arith}
 use lib.ListN.{length, length-set}
+use Rattle.algebra.specs.Sequence.{at}
+use Rattle.field.specs.Field.{plus}
 use Rattle.linear.specs.Buffer.{Added}
 use Rattle.linear.proofs.Rows.{added-none, added-more}
 use Rattle.linear.proofs.add_row.Statement.{statement}
 use Rattle.linear.proofs.add_row.Tie as tie
-use Rattle.linear.proofs.add_row.Reads as reads
-use Rattle.linear.proofs.add_row.Lts as lts
-use Rattle.field.proofs.mul_add.Reads as mul-add-reads
 
 abbrev Inv-loop : tie.InvT-loop
-Inv-loop field work₀ dst src len c powers logs m₀ work m = (m ≤ len) × (length work ≡ length work₀) × Added field work₀ work dst src m c
+Inv-loop field work₀ dst src len c m₀ work m = (m ≤ len) × (length work ≡ length work₀) × Added field work₀ work dst src m c
 
 abbrev μ-loop : tie.MeasureT-loop
-μ-loop field work₀ dst src len c powers logs m₀ work m = len - m
+μ-loop field work₀ dst src len c m₀ work m = len - m
 
 loop-holds : tie.Need-loop-holds Inv-loop μ-loop
 loop-holds c = let a = c .before .args in (omega arith, refl, added-none (a .field) (a .work .now) (a .dst) (a .src) (a .c))
 
-add-mul-add : tie.Need-add-mul-add Inv-loop μ-loop
-add-mul-add c = omega arith
+add-product : tie.Need-add-product Inv-loop μ-loop
+add-product c = omega arith
 
-slice-read-mul-add : tie.Need-slice-read-mul-add Inv-loop μ-loop
-slice-read-mul-add c = omega arith
+slice-read-product : tie.Need-slice-read-product Inv-loop μ-loop
+slice-read-product c = omega arith
 
-add-mul-add-2 : tie.Need-add-mul-add-2 Inv-loop μ-loop
-add-mul-add-2 c = omega arith
+product-requires : tie.Need-product-requires Inv-loop μ-loop
+product-requires c κs = search needs
 
-slice-read-mul-add-2 : tie.Need-slice-read-mul-add-2 Inv-loop μ-loop
-slice-read-mul-add-2 c = omega arith
+add-add : tie.Need-add-add Inv-loop μ-loop
+add-add c = omega arith
 
-mul-add-requires : tie.Need-mul-add-requires Inv-loop μ-loop
-mul-add-requires c κs = search needs
+slice-read-add : tie.Need-slice-read-add Inv-loop μ-loop
+slice-read-add c = omega arith
+
+add-requires : tie.Need-add-requires Inv-loop μ-loop
+add-requires c κs = search needs
 
 add-work : tie.Need-add-work Inv-loop μ-loop
 add-work c = omega arith
@@ -49,14 +51,15 @@ loop-less c = omega arith
 
 loop-again : tie.Need-loop-again Inv-loop μ-loop
 loop-again c =
-    let l = c .before .before .before .before in
+    let l = c .before .before .before .before .before in
     let i = l .loop .inv in
     let a = l .before .before .args in
-    let p = l .before .before .pre in (
+    let p = l .before .before .pre in
+    let o = at (l .loop .work) (a .dst + l .loop .m) in (
       omega arith,
-      length-set (l .loop .work) (a .dst + l .loop .m) (c .mul-add .result) ∙ i .1,
-      added-more (a .field) (a .work .now) (l .loop .work) (a .dst) (a .src) (a .len) (a .c) (l .loop .m) (c .mul-add .result) (i .2) (omega arith)
-          (p .2) (omega arith) (c .mul-add .ensures),
+      length-set (l .loop .work) (a .dst + l .loop .m) (c .add .result) ∙ i .1,
+      added-more (a .field) (a .work .now) (l .loop .work) (a .dst) (a .src) (a .len) (a .c) (l .loop .m) (c .add .result) (i .2) (omega arith) (p .2)
+          (omega arith) (c .add .ensures ∙ ap (plus (a .field) o) (c .before .before .product .ensures)),
     )
 
 same-length : tie.Need-same-length Inv-loop μ-loop
@@ -74,11 +77,12 @@ add-row-spec =
     Inv-loop
     μ-loop
     loop-holds
-    add-mul-add
-    slice-read-mul-add
-    add-mul-add-2
-    slice-read-mul-add-2
-    mul-add-requires
+    add-product
+    slice-read-product
+    product-requires
+    add-add
+    slice-read-add
+    add-requires
     add-work
     slice-write-work
     add-m
