@@ -1,6 +1,5 @@
 -- Generator rows: how the exponent grows along a row, and a slot's symbol as message times row. Assumes nothing.
 --   exponent-zero, exponent-more, exponent-same    the next exponent, where a block of r is full and where not
---   row-room                        a row has at most 256 entries
 --   symbol-is                       a message times a slot's row is the slot's symbol
 use mathlib.Core.Path.{_≡_, refl, sym, ap, ap₂, _∙_}
 use mathlib.Core.Logic.{_≢_}
@@ -18,9 +17,9 @@ use Rattle.field.specs.Polynomial.{dotted}
 use Rattle.code.specs.Code.{tolerance, exponent, point, basis}
 use Rattle.code.specs.Codeword.{value-from, value, symbol}
 use Rattle.code.specs.declared.Code.{Code}
-use Rattle.code.proofs.Accepted.{Good, n-byte}
+use Rattle.code.proofs.Accepted.{Good}
 use Rattle.code.proofs.Groups.{tolerance-is}
-use Rattle.code.proofs.Exponents.{exponent-is, k-below}
+use Rattle.code.proofs.Exponents.{exponent-is}
 
 div-more : (r m : ℕ) → 1 ≤ r → (m + 1) % r ≡ 0 → (m + 1) / r ≡ m / r + 1
 div-more r m h e = go ((m + 1) / r) (rw e at (div-add-mod' (m + 1) r))
@@ -54,10 +53,6 @@ module _ (c : Code) (G : Good c) where
   pub exponent-same : (m : ℕ) → (m + 1) % c .r ≢ 0 → exponent c (m + 1) ≡ suc (exponent c m)
   unfolding tolerance
   exponent-same m n = omega (arith, exponent-is c m, exponent-is c (m + 1), div-same (c .r) m (G .r-least) n)
-
-  -- a row of k symbols fits in 256 bytes
-  pub row-room : c .k ≤ 256
-  row-room = omega (arith, k-below c G, n-byte c G)
 
 -- from symbol m on
 value-is : (c : Code) (x m : ℕ) (ms row : List ℕ) → length ms ≤ length row

@@ -1,14 +1,16 @@
 // Generator rows and encode.
 ghost use mathlib.Core.Path.{_≡_};
 ghost use mathlib.Core.Bool.{true};
-ghost use Prim.Native.Nat.{_+_, _≤_, _<_};
-ghost use lib.ListN.{length};
+ghost use Prim.Native.Nat.{_+_, _-_, _%_, _≤_, _<_};
+ghost use lib.ListN.{length, take};
 ghost use Rattle.algebra.specs.Sequence.{all-below};
 ghost use Rattle.field.specs.Field.{q, power, times};
+ghost use Rattle.field.specs.Polynomial.{poly};
 ghost use Rattle.field.specs.Table.{Powers, Logs};
-ghost use Rattle.code.specs.Code.{code-refusal, point, exponent};
-ghost use Rattle.code.specs.Codeword.{encoded};
+ghost use Rattle.code.specs.Code.{groups, code-refusal, point, exponent};
+ghost use Rattle.code.specs.Codeword.{is-message, encoded};
 ghost use Rattle.encode.specs.Encode.{Row, encode-refusal, Encode-says};
+ghost use Rattle.encode.specs.Local.{local, Points, Stepped, Values, Group-written};
 use code::Code;
 
 // The value of basis polynomial m + 1 at x, from that of basis polynomial m.
@@ -63,7 +65,135 @@ fn encode_refusal(code: Code, message: &[u8], length: usize) -> u32
     0
 }
 
-// Writes the codeword of a message, slot by slot.
+// The place in a block of r before place i; before the first is the last.
+fn place_before(i: usize, r: usize) -> usize
+    requires { ⌜ i < r ⌝ }
+    ensures { λ z. ⌜ z ≡ (i + (r - 1)) % r ⌝ }
+{
+    if i == 0 {
+        return r - 1;
+    }
+    i - 1
+}
+
+// The coefficients of the local polynomial where the power r + 1 of x is y, message symbols from the last to the first.
+fn local_polynomial(
+    code: Code,
+    message: &[u8],
+    y: u8,
+    powers: &[u8; 255],
+    logs: &[u8; 256],
+) -> [u8; 16]
+    requires { ⌜ Powers 1 (now powers) × Logs (now logs) × (code-refusal code ≡ 0) × (length (now message) ≡ code .k) ⌝ }
+    ensures { λ z. ⌜ (length z ≡ 16) × (take (code .r) z ≡ local code y (now (message .entry))) ⌝ }
+{
+    let field = code.field;
+    let r = code.r as usize;
+    let mut m = code.k as usize;
+    let mut i = m % r;
+    let mut local = [0u8; 16];
+    while m > 0 {
+        m -= 1;
+        i = place_before(i, r);
+        local[i] = field::mul_add(field, message[m], y, local[i], powers, logs);
+    }
+    local
+}
+
+// The points of a group's members.
+fn points_of(code: Code, group: u32) -> [u8; 17]
+    requires { ⌜ (code-refusal code ≡ 0) × (group < groups code) ⌝ }
+    ensures { λ z. ⌜ Points code group z ⌝ }
+{
+    let size = code.r + 1;
+    let first = group * size;
+    let mut points = [0u8; 17];
+    let mut i: u32 = 0;
+    while i < size {
+        points[i as usize] = code::point_of(code, first + i);
+        i += 1;
+    }
+    points
+}
+
+// Horner's step at the first size points: each value times its point, plus a.
+fn horner_step(
+    field: u32,
+    a: u8,
+    points: &[u8],
+    size: usize,
+    values: &mut [u8],
+    powers: &[u8; 255],
+    logs: &[u8; 256],
+)
+    requires { ⌜ Powers 1 (now powers) × Logs (now logs) × (size ≤ length (now points)) × (size ≤ length (now values)) ⌝ }
+    ensures { λ _. ⌜ Stepped field a (now (points .entry)) size (now (values .entry)) (now (values .exit)) ⌝ }
+{
+    let mut i: usize = 0;
+    while i < size {
+        values[i] = field::mul_add(field, a, points[i], values[i], powers, logs);
+        i += 1;
+    }
+}
+
+// The values at the first size points of the polynomial with r coefficients.
+fn values_at(
+    field: u32,
+    coefficients: &[u8],
+    r: usize,
+    points: &[u8],
+    size: usize,
+    powers: &[u8; 255],
+    logs: &[u8; 256],
+) -> [u8; 17]
+    requires { ⌜ Powers 1 (now powers) × Logs (now logs) × (r ≤ length (now coefficients)) × (size ≤ length (now points)) × (size ≤ 17) ⌝ }
+    ensures { λ z. ⌜ Values field (take r (now (coefficients .entry))) (now (points .entry)) size z ⌝ }
+{
+    let mut values = [0u8; 17];
+    let mut i = r;
+    while i > 0 {
+        i -= 1;
+        horner_step(
+            field,
+            coefficients[i],
+            points,
+            size,
+            &mut values,
+            powers,
+            logs,
+        );
+    }
+    values
+}
+
+// Writes the symbols of a group: its local polynomial at the points of its members.
+fn write_group(
+    code: Code,
+    message: &[u8],
+    group: u32,
+    codeword: &mut [u8],
+    powers: &[u8; 255],
+    logs: &[u8; 256],
+)
+    requires { ⌜ Powers 1 (now powers) × Logs (now logs) × (code-refusal code ≡ 0) × (is-message code (now message) ≡ true) × (group < groups code) × (length (now codeword) ≡ code .n) ⌝ }
+    ensures { λ _. ⌜ Group-written code (now (message .entry)) group (now (codeword .entry)) (now (codeword .exit)) ⌝ }
+{
+    let field = code.field;
+    let r = code.r as usize;
+    let size = r + 1;
+    let first = group as usize * size;
+    let points = points_of(code, group);
+    let y = field::power_of(field, points[0], code.r + 1, powers, logs);
+    let local = local_polynomial(code, message, y, powers, logs);
+    let values = values_at(field, &local, r, &points, size, powers, logs);
+    let mut i: usize = 0;
+    while i < size {
+        codeword[first + i] = values[i];
+        i += 1;
+    }
+}
+
+// Writes the codeword of a message, group by group.
 fn write_codeword(
     code: Code,
     message: &[u8],
@@ -71,18 +201,14 @@ fn write_codeword(
     powers: &[u8; 255],
     logs: &[u8; 256],
 )
-    requires { ⌜ Powers 1 (now powers) × Logs (now logs) × (code-refusal code ≡ 0) × (length (now message) ≡ code .k) × (length (now codeword) ≡ code .n) ⌝ }
+    requires { ⌜ Powers 1 (now powers) × Logs (now logs) × (code-refusal code ≡ 0) × (is-message code (now message) ≡ true) × (length (now codeword) ≡ code .n) ⌝ }
     ensures { λ _. ⌜ now (codeword .exit) ≡ encoded code (now (message .entry)) ⌝ }
 {
-    let field = code.field;
-    let n = code.n;
-    let k = code.k as usize;
-    let mut row = [0u8; 256];
-    let mut p: u32 = 0;
-    while p < n {
-        fill_row(code, p, &mut row, powers, logs);
-        codeword[p as usize] = field::dot(field, message, &row, k, powers, logs);
-        p += 1;
+    let groups = code.n / (code.r + 1);
+    let mut group: u32 = 0;
+    while group < groups {
+        write_group(code, message, group, codeword, powers, logs);
+        group += 1;
     }
 }
 

@@ -3,6 +3,7 @@ use mathlib.Core.Path.{_≡_, refl, sym, _∙_}
 use lib.ListN.{length}
 use Rattle.code.specs.Codeword.{encoded}
 use Rattle.code.proofs.Answers.{fills-no, fills-yes}
+use Rattle.code.proofs.Codewords.{is-message-of}
 use Rattle.encode.specs.Encode.{encode-refusal, Encode-says}
 use Rattle.encode.proofs.Refusal.{passed}
 use Rattle.encode.proofs.encode.Statement.{statement}
@@ -28,7 +29,7 @@ write-codeword-requires : tie.Need-write-codeword-requires
 write-codeword-requires c κs =
     let a = c .before .before .before .before .before .before .before .before .before .args in
     let P = passed (a .code) (a .message .now) (length (a .codeword .now)) (sym (c .before .before .before .before .before .before .encode-refusal .ensures) ∙ c .before .before .before .before .before .if1 .left) in
-    (c .before .before .before .before .power-table .ensures, c .before .before .before .log-table .ensures, P .accepted, P .size, P .room)
+    (c .before .before .before .before .power-table .ensures, c .before .before .before .log-table .ensures, P .accepted, is-message-of (a .code) (a .message .now) (record { length-is = P .size; below = P .below }), P .room)
 
 same-length : tie.Need-same-length
 same-length c = search needs
