@@ -1,5 +1,6 @@
 -- Linear equations: row operations keep the solutions, and a system in echelon form has one solution or two. Assumes nothing.
---   dot-front, dot-swap                        sums of products
+--   dot-cong, dot-nil, dot-front               sums of products
+--   dot-add, dot-swap
 --   residue-cong, residue-const, residue-add   the value of an equation
 --   add-solves                                 a multiple of a solved equation changes no value
 --   echelon-insert, insert-solves              a bare row takes an equation: still in echelon form, and it is solved
@@ -38,7 +39,7 @@ module _ (R : Ring) where
   dot-cong zero a b y z h = refl
   dot-cong (suc l) a b y z h = ap₂ _⊕_ (dot-cong l a b y z (λ m n. h m (omega arith))) (h l (omega arith))
 
-  dot-nil : (l : ℕ) (a y : ℕ → El) → ((m : ℕ) → m < l → a m ≡ 𝟘) → dot R l a y ≡ 𝟘
+  pub dot-nil : (l : ℕ) (a y : ℕ → El) → ((m : ℕ) → m < l → a m ≡ 𝟘) → dot R l a y ≡ 𝟘
   unfolding dot
   dot-nil zero a y h = refl
   dot-nil (suc l) a y h =
@@ -54,7 +55,7 @@ module _ (R : Ring) where
   regroup : (d e t c u v : El) → (d ⊕ c ⊗ e) ⊕ (t ⊕ c ⊗ u) ⊗ v ≡ (d ⊕ t ⊗ v) ⊕ c ⊗ (e ⊕ u ⊗ v)
   regroup d e t c u v = simp (add-mul R, mul-add, mul-assoc, add-assoc, add-left-comm R)
 
-  dot-add : (l : ℕ) (c : El) (a e b y : ℕ → El) → ((m : ℕ) → m < l → b m ≡ a m ⊕ c ⊗ e m) → dot R l b y ≡ dot R l a y ⊕ c ⊗ dot R l e y
+  pub dot-add : (l : ℕ) (c : El) (a e b y : ℕ → El) → ((m : ℕ) → m < l → b m ≡ a m ⊕ c ⊗ e m) → dot R l b y ≡ dot R l a y ⊕ c ⊗ dot R l e y
   unfolding dot
   dot-add zero c a e b y h = sym (ap (λ n. 𝟘 ⊕ n) (mul-nil R c) ∙ add-nil 𝟘)
   dot-add (suc l) c a e b y h =
@@ -62,7 +63,7 @@ module _ (R : Ring) where
       ∙ regroup (dot R l a y) (dot R l e y) (a l) c (e l) (y l)
 
   -- two points whose terms differ at j alone
-  dot-swap : (l j : ℕ) (a y z : ℕ → El) → j < l → ((m : ℕ) → m < l → m ≢ j → a m ⊗ y m ≡ a m ⊗ z m)
+  pub dot-swap : (l j : ℕ) (a y z : ℕ → El) → j < l → ((m : ℕ) → m < l → m ≢ j → a m ⊗ y m ≡ a m ⊗ z m)
       → dot R l a y ⊕ a j ⊗ z j ≡ dot R l a z ⊕ a j ⊗ y j
   unfolding dot
   dot-swap zero j a y z hj h = absurd (omega arith)
@@ -179,11 +180,11 @@ module _ (R : Ring) where
     pub update : (ℕ → El) → (j : ℕ) → El → ℕ → El
     update y j v m = cond (eqb m j) v (y m)
 
-    update-same : (y : ℕ → El) (j : ℕ) (v : El) → update y j v j ≡ v
+    pub update-same : (y : ℕ → El) (j : ℕ) (v : El) → update y j v j ≡ v
     unfolding update
     update-same y j v = rw (eq-eqb j j refl)
 
-    update-other : (y : ℕ → El) (j : ℕ) (v : El) (m : ℕ) → m ≢ j → update y j v m ≡ y m
+    pub update-other : (y : ℕ → El) (j : ℕ) (v : El) (m : ℕ) → m ≢ j → update y j v m ≡ y m
     unfolding update
     update-other y j v m n = rw (ne-eqb m j n)
 

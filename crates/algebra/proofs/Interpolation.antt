@@ -1,4 +1,5 @@
 -- Lagrange's formula over any field: the weighted sum over places with different points. Assumes nothing.
+--   basis-poly, weigh-own, weigh-other    a weight, as a function of x: a polynomial, 1 at its own point and 0 at the others
 --   through    the weighted sum takes the given value at each place's point
 --   weighted-poly    it is a polynomial with as many coefficients as places
 --   lagrange   so it is the one polynomial of that degree with these values
@@ -62,17 +63,21 @@ module _ (F : Field) (pt : ℕ → F .ring .El) where
       go true p = p
       go false p = poly-linear ring (suc (others m os)) (pt o) (inv (z ⊖ pt o)) p
 
+  -- with as many coefficients as places
+  pub basis-poly : (m : ℕ) (os : List ℕ) → In m os → Poly ring (length os) (λ x. weigh F pt x (pt m) m os)
+  basis-poly m os i = poly-more ring (suc (others m os)) (length os) (others-less m i) (weigh-poly (pt m) m os)
+
   pub weighted-poly : (os : List ℕ) (v : ℕ → El) (ms : List ℕ) → Each (λ m. In m os) ms → Poly ring (length os) (λ x. weighted F pt x os v ms)
   unfolding weighted
   weighted-poly os v [] e = poly-more ring 0 (length os) zero-le (poly-zero ring)
   weighted-poly os v (m ∷ ms) e =
       poly-add ring (length os)
       (poly-same ring (length os) (λ x. mul-comm (weigh F pt x (pt m) m os) (v m))
-      (poly-scale ring (length os) (v m) (poly-more ring (suc (others m os)) (length os) (others-less m (e .0)) (weigh-poly (pt m) m os))))
+      (poly-scale ring (length os) (v m) (basis-poly m os (e .0))))
       (weighted-poly os v ms (e .1))
 
   -- a weight at another place's point is zero, and at its own one
-  weigh-other : (z : El) (m : ℕ) {os : List ℕ} {s : ℕ} → In s os → s ≢ m → weigh F pt (pt s) z m os ≡ 𝟘
+  pub weigh-other : (z : El) (m : ℕ) {os : List ℕ} {s : ℕ} → In s os → s ≢ m → weigh F pt (pt s) z m os ≡ 𝟘
   unfolding weigh
   weigh-other z m {s = s} (here {xs = os}) h = go (eqb s m) (same? s m)
     where
@@ -87,7 +92,7 @@ module _ (F : Field) (pt : ℕ → F .ring .El) where
       go true e = e
       go false e = ap (λ d. (pt s ⊖ pt o) ⊗ inv (z ⊖ pt o) ⊗ d) e ∙ mul-nil ring ((pt s ⊖ pt o) ⊗ inv (z ⊖ pt o))
 
-  weigh-own : (m : ℕ) (os : List ℕ) → Each (λ o. o ≢ m → pt m ≢ pt o) os → weigh F pt (pt m) (pt m) m os ≡ 𝟙
+  pub weigh-own : (m : ℕ) (os : List ℕ) → Each (λ o. o ≢ m → pt m ≢ pt o) os → weigh F pt (pt m) (pt m) m os ≡ 𝟙
   unfolding weigh
   weigh-own m [] e = refl
   weigh-own m (o ∷ os) e = go (eqb o m) (same? o m) (weigh-own m os (e .1))

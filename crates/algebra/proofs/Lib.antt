@@ -8,3 +8,4 @@ pub mod Monomials
 pub mod Locality
 pub mod Filling
 pub mod Equations
+pub mod Parity

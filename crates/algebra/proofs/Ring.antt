@@ -2,7 +2,7 @@
 --   add-cancel, sub-self, eq-of-sub, sub-is, mul-nil    one operation
 --   add-mul, mul-sub, sub-mul, *-interchange            two
 --   pow-add, pow-mul, pow-unit                          powers
---   no-divisors, same-multiple                          fields
+--   no-divisors, pow-nonzero, same-multiple, root-is    fields
 use mathlib.Core.Path.{_≡_, refl, sym, ap, ap₂, _∙_}
 use mathlib.Core.Logic.{_≢_}
 use Prim.Native.Nat.{ℕ, zero, suc, _+_, _*_}
@@ -96,7 +96,22 @@ module _ (F : Field) where
       sym (unit-mul ring b) ∙ ap (λ n. n ⊗ b) (sym (mul-inv a h) ∙ mul-comm a (inv a)) ∙ mul-assoc (inv a) a b
       ∙ ap (λ n. inv a ⊗ n) e ∙ mul-nil ring (inv a)
 
+  pub pow-nonzero : (a : El) → 𝟙 ≢ 𝟘 → a ≢ 𝟘 → (e : ℕ) → pow ring a e ≢ 𝟘
+  unfolding pow
+  pow-nonzero a o h zero z = o z
+  pow-nonzero a o h (suc e) z = pow-nonzero a o h e (no-divisors a (pow ring a e) h z)
+
   pub same-multiple : (x a e : El) → x ≢ a → x ⊗ e ≡ a ⊗ e → e ≡ 𝟘
   same-multiple x a e h p =
       no-divisors (x ⊖ a) e (λ z. h (eq-of-sub ring x a z))
       (add-cancel ring ((x ⊖ a) ⊗ e) 𝟘 (a ⊗ e) (sub-mul ring x a e ∙ p ∙ sym (nil-add ring (a ⊗ e))))
+
+  -- the root of x w + y
+  pub root-is : (x y w : El) → x ≢ 𝟘 → x ⊗ w ⊕ y ≡ 𝟘 → w ≡ 𝟘 ⊖ y ⊗ inv x
+  root-is x y w h e =
+      sym (sub-is ring 𝟘 (y ⊗ inv x) w
+      (ap (λ n. n ⊕ y ⊗ inv x) (sym cleared) ∙ sym (add-mul ring (x ⊗ w) y (inv x)) ∙ ap (λ n. n ⊗ inv x) e ∙ nil-mul ring (inv x)))
+    where
+      cleared : x ⊗ w ⊗ inv x ≡ w
+      cleared =
+          mul-comm (x ⊗ w) (inv x) ∙ sym (mul-assoc (inv x) x w) ∙ ap (λ n. n ⊗ w) (mul-comm (inv x) x ∙ mul-inv x h) ∙ unit-mul ring w

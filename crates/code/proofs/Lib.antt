@@ -9,6 +9,7 @@ pub mod Elements
 pub mod Codewords
 pub mod Distance
 pub mod Weights
+pub mod Parity
 pub mod Repairing
 pub mod Promises
 pub mod Cases

@@ -1,6 +1,6 @@
 -- A slot's mates: r of them, all different, in the slot's group, below n and not the slot. Assumes nothing.
 --   Mate c p m                   == m is in the group of p, below n, and not p
---   length-mates, mates-distinct, mates-are, mate-is, mate-at
+--   length-mates, mates-distinct, mates-are, mate-is, mates-all, mate-at
 --   mates-before, mates-after    mate i is member i of the group, or i + 1 from the slot on
 --   length-symbols, at-symbols   a word's symbols at some slots
 use mathlib.Core.Path.{_≡_, refl, sym, ap, _∙_}
@@ -9,11 +9,12 @@ use mathlib.Core.Bool.{Bool, true, false, cond}
 use mathlib.Core.List.{List, _∷_}
 use Prim.Native.Nat.{ℕ, zero, suc, _+_, _≤_, _<_}
 use native.Mathlib.Nat.{add-zero, add-suc, suc-add, zero-add, not-suc-le-zero, le-of-suc-le-suc}
+use native.Mathlib.Decide.{decLt}
 use native.Mathlib.Omega.{arith}
 use lib.Dec.{eqb}
 use lib.ListN.{length, length-map}
 use Rattle.algebra.specs.Sequence.{at, Each, Distinct, In}
-use Rattle.algebra.proofs.Sequence.{Same, same, other, same?, each-at, each-index, at-map}
+use Rattle.algebra.proofs.Sequence.{Same, same, other, same?, each-intro, each-at, each-index, at-map}
 use Rattle.code.specs.Code.{size, group, member, slot-at}
 use Rattle.code.specs.Repair.{mates-from, mates, symbols-of}
 use Rattle.code.specs.declared.Code.{Code}
@@ -140,6 +141,23 @@ module _ (c : Code) (p : ℕ) where
   mates-after i h l =
       at-from c (group c p) (member c p) (size c) 0 i (omega (arith, size-is c)) (omega arith) (omega arith)
       ∙ ap (λ m. slot-at c (group c p) m) (zero-add (suc i))
+
+  -- every other member of the group is a mate
+  pub mates-all : (i : ℕ) → i < size c → i ≢ member c p → In (slot-at c (group c p) i) (mates c p)
+  mates-all i h n = go (decLt i (member c p))
+    where
+      stands : (k : ℕ) → k < c .r → In (at (mates c p) k) (mates c p)
+      stands k l = each-index (λ m. In m (mates c p)) (mates c p) (each-intro (λ m. In m (mates c p)) (mates c p) (λ m j. j)) k (omega (arith, length-mates))
+
+      after : (i : ℕ) → i < size c → member c p < i → In (slot-at c (group c p) i) (mates c p)
+      after zero h l = absurd (not-suc-le-zero l)
+      after (suc k) h l =
+          let b : k < c .r = omega (arith, size-is c) in
+          rw (← mates-after k (le-of-suc-le-suc l) b) (stands k b)
+
+      go : Dec (i < member c p) → In (slot-at c (group c p) i) (mates c p)
+      go (yes l) = rw (← mates-before i l) (stands i (omega (arith, member-below c p, size-is c)))
+      go (no l) = after i h (omega arith)
 
   pub mate-at : Good c → p < c .n → (i : ℕ) → i < c .r → Mate c p (at (mates c p) i)
   mate-at G h i l = each-index (Mate c p) (mates c p) (mates-are G h) i (omega (arith, length-mates))

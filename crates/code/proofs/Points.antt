@@ -2,25 +2,28 @@
 --   points-differ, group-power    Points-differ and Group-power of specs/Promise.antt
 --   locator c p                   == slot p's point as an element of the field
 --   group-constant c j            == the power r + 1 of the points of group j
---   locators-differ, locator-power
-use mathlib.Core.Path.{_≡_, refl, sym, ap, _∙_}
-use Prim.Native.Nat.{ℕ, _+_, _*_, _-_, _/_, _%_, _<_}
-use native.Mathlib.Nat.{add-comm, div-add-mod', div-lt-iff-lt-mul}
+--   locators-differ, locator-power, locator-nonzero
+--   width c                       == how many powers of γ members of a group are apart
+--   locator-at                    the point of a member of a group
+use mathlib.Core.Path.{_≡_, refl, sym, ap, ap₂, _∙_}
+use mathlib.Core.Logic.{_≢_}
+use Prim.Native.Nat.{ℕ, _+_, _*_, _-_, _/_, _%_, _≤_, _<_}
+use native.Mathlib.Nat.{suc-ne-zero, add-comm, div-add-mod', div-lt-iff-lt-mul}
 use native.Mathlib.Omega.{arith}
 use lib.Arith.{digits-lt, digits-div, digits-mod}
 use Rattle.algebra.specs.Ring.{pow}
-use Rattle.algebra.proofs.Ring.{pow-add, pow-mul, pow-unit, unit-mul}
+use Rattle.algebra.proofs.Ring.{pow-add, pow-mul, pow-unit, unit-mul, pow-nonzero}
 use Rattle.field.specs.Field.{q, γ, power}
 use Rattle.field.proofs.Generator.{powers-differ}
-use Rattle.field.proofs.Elem.{Elem, same, ring-of, pow-is, power-below, gamma-below, gen, whole}
-use Rattle.code.specs.Code.{size, group, member, point-at, point}
+use Rattle.field.proofs.Elem.{Elem, same, ring-of, pow-is, power-below, gamma-below, gen, whole, field-of}
+use Rattle.code.specs.Code.{size, group, member, slot-at, point-at, point}
 use Rattle.code.specs.Promise.{Points-differ, Group-power}
 use Rattle.code.specs.declared.Code.{Code}
 use Rattle.code.proofs.Accepted.{Good, good}
-use Rattle.code.proofs.Groups.{size-least, member-below, same-slot}
+use Rattle.code.proofs.Groups.{size-least, member-below, same-slot, group-slot-at, member-slot-at}
 
 -- members of a group are width powers of γ apart
-width : Code → ℕ
+pub width : Code → ℕ
 width c = (q (c .field) - 1) / size c
 
 -- the power of γ that is slot p's point
@@ -32,13 +35,16 @@ unfolding point point-at place width
 point-is c p = ap (λ n. power (c .field) γ n) (add-comm (group c p) (member c p * width c))
 
 module _ (c : Code) (G : Good c) where
-  width-size : width c * size c ≡ q (c .field) - 1
+  pub width-size : width c * size c ≡ q (c .field) - 1
   unfolding width
   width-size = omega (arith, div-add-mod' (q (c .field) - 1) (size c), G .size-divides)
 
   group-narrow : (p : ℕ) → p < c .n → group c p < width c
   unfolding group
   group-narrow p h = div-lt-iff-lt-mul {k = size c} {x = p} {y = width c} (size-least c) .1 (omega (arith, width-size, G .n-most))
+
+  pub width-least : 1 ≤ width c
+  width-least = omega (arith, group-narrow 0 (omega (arith, G .n-least, size-least c)))
 
   place-below : (p : ℕ) → p < c .n → place c p < q (c .field) - 1
   unfolding place
@@ -89,6 +95,18 @@ module _ (c : Code) (G : Good c) where
   locator-gen : (p : ℕ) → locator c p ≡ pow (ring-of (c .field)) (gen (c .field)) (place c p)
   unfolding locator gen
   locator-gen p = same (c .field) _ _ (point-is c p ∙ sym (pow-is (c .field) (gen (c .field)) (place c p)))
+
+  pub locator-at : (j i : ℕ) → i < size c → locator c (slot-at c j i) ≡ pow (ring-of (c .field)) (gen (c .field)) (i * width c + j)
+  unfolding place
+  locator-at j i h =
+      locator-gen (slot-at c j i)
+      ∙ ap₂ (λ m n. pow (ring-of (c .field)) (gen (c .field)) (m * width c + n)) (member-slot-at c j i h) (group-slot-at c j i h)
+
+  pub locator-nonzero : (p : ℕ) → locator c p ≢ ring-of (c .field) .nil
+  unfolding gen γ
+  locator-nonzero p z =
+      pow-nonzero (field-of (c .field)) (gen (c .field)) (λ e. suc-ne-zero _ (ap (λ x. x .0) e)) (λ e. suc-ne-zero _ (ap (λ x. x .0) e)) (place c p)
+      (sym (locator-gen p) ∙ z)
 
   pub locator-power : (p : ℕ) → pow (ring-of (c .field)) (locator c p) (size c) ≡ group-constant c (group c p)
   unfolding group-constant place

@@ -6,6 +6,7 @@ use Rattle.code.proofs.Exponents.{exponents-are}
 use Rattle.code.proofs.Codewords.{symbols-below}
 use Rattle.code.proofs.Distance.{far-apart, decodes-back, encoding-injective, bridges}
 use Rattle.code.proofs.Weights.{weights-law, repair-interpolates}
+use Rattle.code.proofs.Parity.{weights-are}
 use Rattle.code.proofs.Repairing.{low-degree, groups-tell, repairs-back, strip-restores, pass-mends}
 
 pub promises : Promises
@@ -24,6 +25,7 @@ promises =
       pass-mends = pass-mends;
       weights-law = weights-law;
       repair-interpolates = repair-interpolates;
+      weights-are = weights-are;
       encoding-injective = encoding-injective;
       bridges = bridges;
     }

@@ -1,4 +1,6 @@
 -- Repair for any mates' symbols: weights are Lagrange's, and one polynomial with r coefficients goes through the mates. Assumes nothing.
+--   weigh-is               a weight is that of the field
+--   mates-differ           the mates' points differ
 --   weights-law            weights with a polynomial's values at the mates give its value at the slot
 --   repair-interpolates    the polynomial through the mates, and repair as its value at the slot
 -- The statements are those of specs/Promise.antt.
@@ -41,7 +43,7 @@ module _ (c : Code) where
 
   -- weights and weighted sums are those of the field
   module _ (p : ℕ) where
-    weigh-is : (m : ℕ) (os : List ℕ) → weigh F (locator c) (locator c p) (locator c m) m os .0 ≡ weight-over c (point c p) (point c m) m os
+    pub weigh-is : (m : ℕ) (os : List ℕ) → weigh F (locator c) (locator c p) (locator c m) m os .0 ≡ weight-over c (point c p) (point c m) m os
     unfolding weigh weight-over locator inv
     weigh-is m [] = refl
     weigh-is m (o ∷ os) = go (eqb o m) (weigh F (locator c) (locator c p) (locator c m) m os) (weight-over c (point c p) (point c m) m os) (weigh-is m os)
@@ -59,7 +61,7 @@ module _ (c : Code) where
     weighted-is v (m ∷ ms) = ap₂ (plus f) (ap (λ w. times f w (v m .0)) (weigh-is m (mates c p))) (weighted-is v ms)
 
   module _ (G : Good c) (p : ℕ) (inside : p < c .n) where
-    mates-differ : (i j : ℕ) → In i (mates c p) → In j (mates c p) → locator c i ≡ locator c j → i ≡ j
+    pub mates-differ : (i j : ℕ) → In i (mates c p) → In j (mates c p) → locator c i ≡ locator c j → i ≡ j
     mates-differ i j a b e = locators-differ c G i j (mate-is c p G inside a .below) (mate-is c p G inside b .below) e
 
     pub weigh-poly : (cs : List ℕ) → length cs ≡ c .r → T (all-below (q (c .field)) cs)

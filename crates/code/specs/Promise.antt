@@ -3,7 +3,7 @@
 --   Points-differ, Group-power, Exponents-are, Symbols-below, Low-degree    points and polynomials
 --   Far-apart, Groups-tell, Decodes-back, Repairs-back                      the third demand
 --   Strip-restores, Pass-mends                                              and what follows of strips and the local pass
---   Weights-law, Repair-interpolates                                        repair for any mates, of a codeword or not
+--   Weights-law, Repair-interpolates, Weights-are                           repair for any mates, of a codeword or not
 --   Encoding-injective, Bridges                                             messages and codewords
 --   Promises                                                                all of them
 use mathlib.Core.Path.{_≡_}
@@ -13,7 +13,7 @@ use mathlib.Core.List.{List, map}
 use Prim.Native.Nat.{ℕ, _+_, _*_, _-_, _≤_, _<_}
 use lib.ListN.{length}
 use Rattle.algebra.specs.Sequence.{at, tabulate, all-below}
-use Rattle.field.specs.Field.{q, γ, power}
+use Rattle.field.specs.Field.{q, γ, minus, times, power, inverse}
 use Rattle.field.specs.Polynomial.{poly, dotted}
 use Rattle.code.specs.Code.{size, code-refusal, group, point, exponent}
 use Rattle.code.specs.Codeword.{is-message, symbol, encoded, Codeword, shared, ceiling, most-shared}
@@ -124,6 +124,12 @@ Repair-interpolates =
     (c : Code) (p : ℕ) (xs : List ℕ) → Accepted c → p < c .n → length xs ≡ c .r → all-below (q (c .field)) xs ≡ true
     → Interpolates c p xs
 
+-- the weight of mate m for slot p is - x m / x p, where x are the points
+unfoldable pub Weights-are : Type 0
+Weights-are =
+    (c : Code) (p : ℕ) → Accepted c → p < c .n
+    → weights c p ≡ map (λ m. minus (c .field) 0 (times (c .field) (point c m) (inverse (c .field) (point c p)))) (mates c p)
+
 -- a codeword has one message only
 unfoldable pub Encoding-injective : Type 0
 Encoding-injective = (c : Code) (xs ys : List ℕ) → Accepted c → Message c xs → Message c ys → encoded c xs ≡ encoded c ys → xs ≡ ys
@@ -165,5 +171,6 @@ pub record Promises : Type 0 where
   pub pass-mends : Pass-mends
   pub weights-law : Weights-law
   pub repair-interpolates : Repair-interpolates
+  pub weights-are : Weights-are
   pub encoding-injective : Encoding-injective
   pub bridges : Bridges

@@ -3,11 +3,10 @@ ghost use mathlib.Core.Path.{_≡_};
 ghost use Prim.Native.Nat.{_*_, _≤_, _<_};
 ghost use lib.ListN.{length, take};
 ghost use Rattle.algebra.specs.Sequence.{at, tabulate};
-ghost use Rattle.field.specs.Field.{minus, times, inverse};
 ghost use Rattle.field.specs.Polynomial.{dotted};
 ghost use Rattle.field.specs.Table.{Powers, Logs};
 ghost use Rattle.code.specs.Code.{code-refusal};
-ghost use Rattle.code.specs.Repair.{mates, weight, weights, column};
+ghost use Rattle.code.specs.Repair.{mates, weights, column};
 ghost use Rattle.repair.specs.Weights.{sixteen, weights-refusal, Weights-say};
 ghost use Rattle.repair.specs.Mates.{mates-refusal, Repair-says, Rebuild-says};
 use code::Answer;
@@ -32,50 +31,22 @@ pub fn mate_of(code: Code, slot: u32, i: u32) -> u32
     first + (i + 1)
 }
 
-// (x - y) / (z - y)
-fn ratio(field: u32, x: u8, z: u8, y: u8, powers: &[u8; 255], logs: &[u8; 256]) -> u8
-    requires { ⌜ Powers 1 (now powers) × Logs (now logs) ⌝ }
-    ensures { λ w. ⌜ w ≡ times field (minus field x y) (inverse field (minus field z y)) ⌝ }
-{
-    let above = field::sub(field, x, y);
-    let below = field::sub(field, z, y);
-    let inverse = field::inverse_of(field, below, powers, logs);
-    field::mul(field, above, inverse, powers, logs)
-}
-
-// The repair weight of a mate: a product over the other mates.
-fn weight_of(code: Code, slot: u32, mate: u32, powers: &[u8; 255], logs: &[u8; 256]) -> u8
-    requires { ⌜ Powers 1 (now powers) × Logs (now logs) × (code-refusal code ≡ 0) × (slot < code .n) × (mate < code .n) ⌝ }
-    ensures { λ w. ⌜ w ≡ weight code slot mate ⌝ }
-{
-    let field = code.field;
-    let x = code::point_of(code, slot);
-    let z = code::point_of(code, mate);
-    let mut w: u8 = 1;
-    let mut i = code.r;
-    while i > 0 {
-        i -= 1;
-        let other = mate_of(code, slot, i);
-        if other != mate {
-            let y = code::point_of(code, other);
-            let t = ratio(field, x, z, y, powers, logs);
-            w = field::mul(field, t, w, powers, logs);
-        }
-    }
-    w
-}
-
-// The repair weights of a slot, with zeros after them.
+// The repair weights of a slot, with zeros after them: minus each mate's point by the slot's.
 pub fn weights_of(code: Code, slot: u32, powers: &[u8; 255], logs: &[u8; 256]) -> [u8; 16]
     requires { ⌜ Powers 1 (now powers) × Logs (now logs) × (code-refusal code ≡ 0) × (slot < code .n) ⌝ }
     ensures { λ x. ⌜ x ≡ sixteen (weights code slot) ⌝ }
 {
+    let field = code.field;
     let r = code.r;
+    let x = code::point_of(code, slot);
+    let inverse = field::inverse_of(field, x, powers, logs);
     let mut weights = [0u8; 16];
     let mut i: u32 = 0;
     while i < r {
         let mate = mate_of(code, slot, i);
-        let w = weight_of(code, slot, mate, powers, logs);
+        let y = code::point_of(code, mate);
+        let t = field::mul(field, y, inverse, powers, logs);
+        let w = field::sub(field, 0, t);
         weights[i as usize] = w;
         i += 1;
     }
