@@ -9,3 +9,5 @@ pub mod Locality
 pub mod Filling
 pub mod Equations
 pub mod Parity
+pub mod Coefficients
+pub mod Newton

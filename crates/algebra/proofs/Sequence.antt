@@ -3,6 +3,8 @@
 --   Same m n b, same?                    the test of equality, and what it says
 --   each-zip, each-intro, each-at, each-index, each-map, distinct-map
 --   map-each, each-of-map, at-map        lists made of a list
+--   at-past, at-replicate, at-zeros      entries past the end, and of a list of one value
+--   all-below-at, all-below-intro, all-below-any, all-below-not
 --   lookup ms xs s                       the value of xs where ms has the key s; map-lookup
 --   length-tabulate, at-tabulate, tabulate-is, tabulate-same, each-tabulate
 --   every-at, every-intro, count-most, count-split, count-same, count-all
@@ -13,9 +15,9 @@ use mathlib.Core.Bool.{Bool, true, false, cond, not, _&&_, _||_}
 use mathlib.Core.List.{List, [], _∷_, map}
 use Prim.Native.Nat.{ℕ, zero, suc, _+_, _≤_, _<_, zero-le}
 use native.Mathlib.Nat.{le-refl, add-zero, add-suc, suc-add, zero-add, not-suc-le-zero, le-of-suc-le-suc}
-use native.Mathlib.Decide.{ℕ-discrete}
+use native.Mathlib.Decide.{ℕ-discrete, decLt}
 use native.Mathlib.Omega.{arith}
-use lib.ListN.{length, getD, drop}
+use lib.ListN.{length, getD, drop, replicate}
 use lib.Seq.{ext-getD}
 use lib.Dec.{T, eqb, eqb→eq, eqb-refl, ltb, ltb→lt, lt→ltb}
 use Rattle.algebra.specs.Sequence.{at, tabulate-from, tabulate, count, every, all-below, Each, Distinct, In, here, there}
@@ -99,6 +101,21 @@ pub at-map : (f : ℕ → ℕ) (xs : List ℕ) (i : ℕ) → i < length xs → a
 at-map f [] i h = absurd (not-suc-le-zero h)
 at-map f (x ∷ xs) zero h = refl
 at-map f (x ∷ xs) (suc i) h = at-map f xs i (le-of-suc-le-suc h)
+
+pub at-past : (xs : List ℕ) (i : ℕ) → length xs ≤ i → at xs i ≡ 0
+at-past [] i h = refl
+at-past (x ∷ xs) zero h = absurd (not-suc-le-zero h)
+at-past (x ∷ xs) (suc i) h = at-past xs i (le-of-suc-le-suc h)
+
+pub at-replicate : (n v i : ℕ) → i < n → at (replicate n v) i ≡ v
+at-replicate zero v i h = absurd (not-suc-le-zero h)
+at-replicate (suc n) v zero h = refl
+at-replicate (suc n) v (suc i) h = at-replicate n v i (le-of-suc-le-suc h)
+
+pub at-zeros : (n i : ℕ) → at (replicate n 0) i ≡ 0
+at-zeros zero i = refl
+at-zeros (suc n) zero = refl
+at-zeros (suc n) (suc i) = at-zeros n i
 
 -- the value that goes with a key
 unfoldable pub lookup : (keys values : List ℕ) → ℕ → ℕ
@@ -233,6 +250,13 @@ unfolding all-below
 all-below-at q [] t i h = absurd (not-suc-le-zero h)
 all-below-at q (x ∷ xs) t zero h = ltb→lt x q (and-left (ltb x q) (all-below q xs) t)
 all-below-at q (x ∷ xs) t (suc i) h = all-below-at q xs (and-right (ltb x q) (all-below q xs) t) i (le-of-suc-le-suc h)
+
+pub all-below-any : (q : ℕ) (xs : List ℕ) → 0 < q → T (all-below q xs) → (i : ℕ) → at xs i < q
+all-below-any q xs z t i = go (decLt i (length xs))
+  where
+    go : Dec (i < length xs) → at xs i < q
+    go (yes h) = all-below-at q xs t i h
+    go (no h) = rw (at-past xs i (omega arith)) z
 
 pub all-below-intro : (q : ℕ) (xs : List ℕ) → ((i : ℕ) → i < length xs → at xs i < q) → T (all-below q xs)
 unfolding all-below

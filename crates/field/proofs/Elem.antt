@@ -1,6 +1,7 @@
 -- The numbers below q as a field: both fields are instances of the abstract one. Assumes nothing.
 --   Elem f, ring-of f, field-of f    the elements, and their ring and field
 --   el f n                           a number as an element: itself where it is below q
+--   zero-below, el-zero              0 as an element
 --   gen f                            the generator γ
 --   pow-is, power-below, whole       powers
 use mathlib.Core.Path.{_≡_, refl, sym, ap, _∙_}
@@ -105,6 +106,12 @@ module _ (f : ℕ) where
 
   pub el-val : (x : Elem f) → el (x .0) ≡ x
   el-val x = same f _ _ (el-is (x .0) (x .1))
+
+  pub zero-below : 0 < q f
+  zero-below = omega (arith, laws f .two-below)
+
+  pub el-zero : el 0 ≡ 𝟘
+  el-zero = same f _ _ (el-is 0 zero-below)
 
   abbrev pub field-of : Field
   field-of = record { ring = ring-of f; inv = inv; mul-inv = mul-inv }

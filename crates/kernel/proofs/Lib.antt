@@ -1,5 +1,5 @@
-pub mod Doubling
 pub mod Sum
 pub mod Products
 pub mod Rows
 pub mod Tiles
+pub mod Roots

@@ -139,5 +139,5 @@ pub reach-of : (ws : List ℕ) (l : ℕ) (os ns : List ℕ) (r total : ℕ) → 
 reach-of ws l os ns r total b t P =
     record { few = λ m h. omega (arith, P .row m h .few); within = λ m k h g. omega (arith, P .row m h .within k g) }
 
-pub reach-less : (a b total : ℕ) (os ns : List ℕ) → a ≤ b → Reach b total os ns → Reach a total os ns
-reach-less a b total os ns h R = record { few = R .few; within = λ m k g n. omega (arith, R .within m k g n) }
+pub reach-less : {a b total : ℕ} {os ns : List ℕ} → a ≤ b → Reach b total os ns → Reach a total os ns
+reach-less h R = record { few = R .few; within = λ m k g n. omega (arith, R .within m k g n) }

@@ -1,10 +1,11 @@
 -- Tiles of columns, written one after the other. Assumes nothing.
 --   length-table
 --   added-none, added-more           the first symbols of a row added to a tile
---   horner-first, horner-next        a tile after one row, and after one more
+--   Held, held-first, held-next      a tile of any width after one row, and after one more
+--   held-size, held-doubled          its length
+--   held-tiled                       after all, copied
 --   copied-none, copied-more, copied-all
 --   Spread, spread-none, spread-more
---   tiled-of       a tile with the columns' values, copied
 --   rebuilt-none, rebuilt-more, rebuilt-all
 --   combined-of    all columns rebuilt by a plan
 --   combined-spread    short strips by way of wider ones
@@ -62,22 +63,48 @@ module _ (xs os ns : List ℕ) (c n : ℕ) where
       ∙ tabulate-same 0 (λ i. sum (at y i) (row-symbol xs os m (c + i)) (at ns m)) (λ i. horner xs os ns (c + i) (suc m)) n
       (λ i h. ap (λ a. sum a (row-symbol xs os m (c + i)) (at ns m)) (d i h) ∙ sym (horner-more xs os ns (c + i) m))
 
-  pub horner-first : (z : List ℕ) → z ≡ tabulate (λ i. sum (at (zeros n) i) (row-symbol xs os 0 (c + i)) (at ns 0)) (length (zeros n))
-      → z ≡ tabulate (λ i. horner xs os ns (c + i) 1) n
-  horner-first z q =
-      let d : doubled 0 ≡ 0 = unfold doubled in refl in
-      next 0 (zeros n) z (length-replicate n 0)
-      (λ i h. getD-replicate n i 0 0 h ∙ sym (ap doubled (horner-none xs os ns (c + i)) ∙ d)) q
+-- a tile of n columns from c on after some rows: each of its entries is its column's value
+pub record Held (n : ℕ) (xs os ns : List ℕ) (c m : ℕ) (t : List ℕ) : Type 0 where
+  pub some : 1 ≤ m
+  pub most : m ≤ 8
+  pub values : t ≡ tabulate (λ i. horner xs os ns (c + i) m) n
 
-  pub horner-next : (m : ℕ) (x y z : List ℕ) → x ≡ tabulate (λ i. horner xs os ns (c + i) m) n
-      → y ≡ tabulate (λ i. doubled (at x i)) (length x)
-      → z ≡ tabulate (λ i. sum (at y i) (row-symbol xs os m (c + i)) (at ns m)) (length y)
-      → z ≡ tabulate (λ i. horner xs os ns (c + i) (m + 1)) n
-  horner-next m x y z p q e =
-      let s : length x ≡ n = length-table (λ i. horner xs os ns (c + i) m) n x p in
-      next m y z (length-table (λ i. doubled (at x i)) (length x) y q ∙ s)
-      (λ i h. at-table (λ i. doubled (at x i)) (length x) i y q (omega arith) ∙ ap doubled (at-table (λ i. horner xs os ns (c + i) m) n i x p h)) e
-      ∙ ap (λ k. tabulate (λ i. horner xs os ns (c + i) k) n) (sym (add-one m))
+module _ {n : ℕ} {xs os ns : List ℕ} {c : ℕ} where
+  pub held-first : {z : List ℕ} → z ≡ tabulate (λ i. sum (at (zeros n) i) (row-symbol xs os 0 (c + i)) (at ns 0)) (length (zeros n)) → Held n xs os ns c 1 z
+  held-first {z} q =
+      let d : doubled 0 ≡ 0 = unfold doubled in refl in
+      record {
+        some = omega arith;
+        most = omega arith;
+        values = next xs os ns c n 0 (zeros n) z (length-replicate n 0) (λ i h. getD-replicate n i 0 0 h ∙ sym (ap doubled (horner-none xs os ns (c + i)) ∙ d)) q;
+      }
+
+  pub held-size : {m : ℕ} {t : List ℕ} → Held n xs os ns c m t → length t ≡ n
+  held-size {m} {t} H = length-table (λ i. horner xs os ns (c + i) m) n t (H .values)
+
+  pub held-doubled : {m : ℕ} {x y : List ℕ} → Held n xs os ns c m x → y ≡ tabulate (λ i. doubled (at x i)) (length x) → length y ≡ n
+  held-doubled {m} {x} {y} H q = length-table (λ i. doubled (at x i)) (length x) y q ∙ held-size H
+
+  pub held-next : {m : ℕ} {x y z : List ℕ} → m < 8 → Held n xs os ns c m x → y ≡ tabulate (λ i. doubled (at x i)) (length x)
+      → z ≡ tabulate (λ i. sum (at y i) (row-symbol xs os m (c + i)) (at ns m)) (length y) → Held n xs os ns c (m + 1) z
+  held-next {m} {x} {y} {z} b H q e =
+      record {
+        some = omega arith;
+        most = omega arith;
+        values = next xs os ns c n m y z (held-doubled H q)
+            (λ i h. at-table (λ i. doubled (at x i)) (length x) i y q (omega (arith, held-size H)) ∙ ap doubled (at-table (λ i. horner xs os ns (c + i) m) n i x (H .values) h)) e
+            ∙ ap (λ k. tabulate (λ i. horner xs os ns (c + i) k) n) (sym (add-one m));
+      }
+
+  -- all rows done and copied
+  pub held-tiled : {m : ℕ} {t a z : List ℕ} → 8 ≤ m → Held n xs os ns c m t → Copied n t 0 a c z → Tiled n xs os ns c a z
+  held-tiled {m} {t} b H C =
+      let e : m ≡ 8 = omega (arith, H .most) in
+      record {
+        size = C .size;
+        before = C .before;
+        new = λ i h. C .new i h ∙ ap (at t) (zero-add i) ∙ at-table (λ i. horner xs os ns (c + i) m) n i t (H .values) h ∙ ap (horner xs os ns (c + i)) e;
+      }
 
 module _ (xs : List ℕ) (from : ℕ) (a : List ℕ) (to : ℕ) where
   pub copied-none : Copied 0 xs from a to a
@@ -113,24 +140,16 @@ spread-more xs l j a y z b S C = record { size = C .size ∙ S .size; done = λ 
     go k i h g (yes p) = rw p (C .new i g)
     go k i h g (no n) = let s : k < j = omega arith in C .before (k * 64 + i) (omega arith) ∙ S .done k i s g
 
-module _ (xs os ns : List ℕ) where
-  pub tiled-of : (n c : ℕ) (t a z : List ℕ) → t ≡ tabulate (λ i. horner xs os ns (c + i) 8) n → Copied n t 0 a c z → Tiled n xs os ns c a z
-  tiled-of n c t a z e C =
-      record {
-        size = C .size;
-        before = C .before;
-        new = λ i h. C .new i h ∙ ap (at t) (zero-add i) ∙ ap (λ l. at l i) e ∙ at-tabulate (λ i. horner xs os ns (c + i) 8) 0 n i h;
-      }
+module _ {xs os ns : List ℕ} where
+  pub rebuilt-none : {a : List ℕ} → Rebuilt xs os ns 0 a a
+  rebuilt-none = record { size = refl; done = λ p h g. absurd (omega arith) }
 
-  pub rebuilt-none : (a : List ℕ) → Rebuilt xs os ns 0 a a
-  rebuilt-none a = record { size = refl; done = λ p h g. absurd (omega arith) }
-
-  pub rebuilt-all : (c d : ℕ) (a z : List ℕ) → d ≤ c → Rebuilt xs os ns c a z → Rebuilt xs os ns d a z
-  rebuilt-all c d a z e R = record { size = R .size; done = λ p h g. R .done p (omega arith) g }
+  pub rebuilt-all : {c d : ℕ} {a z : List ℕ} → d ≤ c → Rebuilt xs os ns c a z → Rebuilt xs os ns d a z
+  rebuilt-all e R = record { size = R .size; done = λ p h g. R .done p (omega arith) g }
 
   -- a tile at c, or before it at the end
-  pub rebuilt-more : (n b c : ℕ) (a y z : List ℕ) → b ≤ c → (b ≡ c) ⊎ (b ≡ length a - n) → Rebuilt xs os ns c a y → Tiled n xs os ns b y z → Rebuilt xs os ns (c + n) a z
-  rebuilt-more n b c a y z h w R T =
+  pub rebuilt-more : {n b c : ℕ} {a y z : List ℕ} → b ≤ c → (b ≡ c) ⊎ (b ≡ length a - n) → Rebuilt xs os ns c a y → Tiled n xs os ns b y z → Rebuilt xs os ns (c + n) a z
+  rebuilt-more {n} {b} {c} {a} {y} {z} h w R T =
       record { size = T .size ∙ R .size; done = λ p g l. go p l (ends p g l) (ℕ-discrete p (b + (p - b))) }
     where
       ends : (p : ℕ) → p < c + n → p < length a → p < b + n

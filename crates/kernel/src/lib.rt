@@ -1,18 +1,29 @@
-// The sum of weight times symbol over each column of strips of bytes, by Horner's rule over the bits of the weights.
+// The sum of weight times symbol over each column of strips of bytes: by Horner's rule over the bits of the weights, and for the two weights of r = 2 by one product a column.
 ghost use mathlib.Core.Path.{_≡_};
 ghost use mathlib.Core.Logic.{_⊎_};
+ghost use mathlib.Core.Bool.{true};
 ghost use Prim.Native.Nat.{ℕ, _+_, _*_, _≤_, _<_};
 ghost use lib.ListN.{length};
 ghost use Rattle.algebra.specs.Sequence.{at, tabulate};
-ghost use Rattle.field.specs.Field.{xor-from, doubled};
+ghost use Rattle.field.specs.Field.{xor-from, doubled, times-from};
 ghost use Rattle.kernel.specs.Columns.{Combined};
 ghost use Rattle.kernel.specs.Plan.{sum, row-symbol, Planned, Reach, Extended, Copied, Tiled, Rebuilt};
+ghost use Rattle.kernel.specs.Pair.{Roots, root-sum};
 
-// 2 x
-fn double_byte(x: u8) -> u8
-    ensures { λ y. ⌜ y ≡ doubled x ⌝ }
+// 16 x
+fn times_16(x: u8) -> u8
+    ensures { λ y. ⌜ y ≡ times-from 8 16 x ⌝ }
 {
-    (x % 128) * 2 ^ (x / 128) * 29
+    let high = x / 16;
+    x % 16 * 16 ^ high * 16 ^ high * 8 ^ high * 4 ^ high
+}
+
+// 214 x, a cube root of unity times x: 214 is 16 * 13 and 6, and 13 is 2 * 6 and 1.
+fn times_root(x: u8) -> u8
+    ensures { λ y. ⌜ y ≡ times-from 8 214 x ⌝ }
+{
+    let six = field::double(field::double(x) ^ x);
+    times_16(field::double(six) ^ x) ^ six
 }
 
 // Doubles every byte of t.
@@ -21,7 +32,7 @@ fn double(t: &mut [u8])
 {
     let mut i: usize = 0;
     while i < t.len() {
-        t[i] = double_byte(t[i]);
+        t[i] = field::double(t[i]);
         i += 1;
     }
 }
@@ -200,11 +211,55 @@ fn combine_short(weights: &[u8; 16], r: usize, strips: &[u8], output: &mut [u8])
     copy(&sums, 0, l, output, 0);
 }
 
+// Whether two weights are 214 and 215, as the code's own weights of two mates are.
+fn are_roots(first: u8, second: u8) -> bool
+    ensures { λ x. ⌜ (x ≡ true → Roots first second) ⌝ }
+{
+    if first == 214 {
+        return second == 215;
+    }
+    if first == 215 {
+        return second == 214;
+    }
+    false
+}
+
+// Writes 214 (a + b) + c for each column: its symbols a and b of two strips, and c the one of them at offset o.
+fn root_sums(strips: &[u8], o: usize, output: &mut [u8])
+    requires { ⌜ (2 * length (now output) ≤ length (now strips)) × (o ≤ length (now output)) ⌝ }
+    ensures { λ _. ⌜ now (output .exit) ≡ tabulate (root-sum (now (strips .entry)) (length (now (output .entry))) o) (length (now (output .entry))) ⌝ }
+{
+    let l = output.len();
+    let mut i: usize = 0;
+    while i < l {
+        output[i] = times_root(strips[i] ^ strips[l + i]) ^ strips[o + i];
+        i += 1;
+    }
+}
+
+// The sums over two strips whose weights are 214 and 215: 214 (a + b), and the symbol whose weight is 215, since 214 + 1 is 215.
+fn combine_roots(weights: &[u8; 16], strips: &[u8], output: &mut [u8])
+    requires { ⌜ Roots (at (now weights) 0) (at (now weights) 1) × (2 * length (now output) ≤ length (now strips)) ⌝ }
+    ensures { λ _. ⌜ Combined (now (weights .entry)) 2 (now (strips .entry)) (now (output .entry)) (now (output .exit)) ⌝ }
+{
+    if weights[0] == 214 {
+        root_sums(strips, output.len(), output);
+        return;
+    }
+    root_sums(strips, 0, output);
+}
+
 // Writes to each place of output the sum of weight times symbol over its column of the strips, over bytes.
 pub fn combine(weights: &[u8; 16], r: usize, strips: &[u8], output: &mut [u8])
     requires { ⌜ (r ≤ 16) × (length (now output) ≤ 4096) × (length (now strips) ≡ r * length (now output)) ⌝ }
     ensures { λ _. ⌜ Combined (now (weights .entry)) r (now (strips .entry)) (now (output .entry)) (now (output .exit)) ⌝ }
 {
+    if r == 2 {
+        if are_roots(weights[0], weights[1]) {
+            combine_roots(weights, strips, output);
+            return;
+        }
+    }
     if output.len() < 64 {
         combine_short(weights, r, strips, output);
         return;

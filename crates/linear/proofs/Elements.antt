@@ -21,15 +21,9 @@ use Rattle.algebra.proofs.Equations.{dot-cong, dot-front, residue-cong, residue
 use Rattle.field.specs.Field.{q, plus, minus, times}
 use Rattle.field.specs.Polynomial.{dotted}
 use Rattle.field.proofs.Laws.{laws}
-use Rattle.field.proofs.Elem.{Elem, same, ring-of, el, el-is, el-val}
+use Rattle.field.proofs.Elem.{Elem, same, ring-of, el, el-is, el-val, zero-below, el-zero}
 use Rattle.linear.specs.System.{Vector, entry, residue, Solved, Echelon}
 use Rattle.linear.proofs.Rows.{row-step}
-
-pub zero-below : (f : ℕ) → 0 < q f
-zero-below f = omega (arith, laws f .two-below)
-
-pub el-zero : (f : ℕ) → el f 0 ≡ ring-of f .nil
-el-zero f = same f _ _ (el-is f 0 (zero-below f))
 
 pub zero-of : (f x : ℕ) → x < q f → el f x ≡ ring-of f .nil → x ≡ 0
 zero-of f x h e = sym (el-is f x h) ∙ ap (λ y. y .0) e

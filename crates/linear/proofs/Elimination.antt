@@ -18,11 +18,11 @@ use Rattle.algebra.proofs.Equations.{dot-cong, minus-one, residue-cong, residue
 use Rattle.field.specs.Field.{q, plus, minus, times, inverse}
 use Rattle.field.specs.Polynomial.{dotted}
 use Rattle.field.proofs.Laws.{laws}
-use Rattle.field.proofs.Elem.{Elem, same, ring-of, field-of, inv, el, el-is}
+use Rattle.field.proofs.Elem.{Elem, same, ring-of, field-of, inv, el, el-is, zero-below, el-zero}
 use Rattle.linear.specs.System.{Vector, entry, coefs, residue, Solved, Echelon, Inserted}
 use Rattle.linear.specs.Buffer.{Added, Ready, All-solved, Same, Stepped, Placed}
 use Rattle.linear.proofs.Rows.{row-step, row-others, row-put}
-use Rattle.linear.proofs.Elements.{Row, zero-below, el-zero, rows, vec, row-of, residue-is, residue-to, residue-of, dot-is, echelon-to, echelon-of, echelon-kept, residue-kept}
+use Rattle.linear.proofs.Elements.{Row, rows, vec, row-of, residue-is, residue-to, residue-of, dot-is, echelon-to, echelon-of, echelon-kept, residue-kept}
 
 pub differ : {A : Type 0} → true ≡ false → A
 differ e = absurd (let z : _≡_ {A = ℕ} 0 1 = cc (e) in omega arith)

@@ -2,7 +2,6 @@
 --   row-step, rows-apart       rows lie behind each other
 --   added-none, added-more     a row operation, column by column
 --   row-others, row-put        the same on whole rows, where the columns before the first written are 0
---   at-zeros                   a cleared buffer
 use mathlib.Core.Path.{_≡_, refl, sym, ap, ap₂, _∙_}
 use mathlib.Core.Logic.{_≢_}
 use mathlib.Core.List.{List, _++_, append-nil}
@@ -29,11 +28,6 @@ rows-apart k i j c n m p hm hp e = go (decLt i j)
     go : Dec (i < j) → ⊥
     go (yes h) = omega (arith, row-step i j (k + 1) h)
     go (no h) = let g : j < i = omega arith in omega (arith, row-step j i (k + 1) g)
-
-pub at-zeros : (n i : ℕ) → at (replicate n 0) i ≡ 0
-at-zeros zero i = refl
-at-zeros (suc n) zero = refl
-at-zeros (suc n) (suc i) = at-zeros n i
 
 pub filled : (d : List ℕ) (n : ℕ) → n ≡ length d → replicate n 0 ++ drop n d ≡ replicate (length d) 0
 filled d n e = rw (e, drop-length d) (append-nil (replicate (length d) 0))

@@ -13,14 +13,13 @@ use lib.ListN.{length, set, replicate}
 use lib.Seq.{getD-set-same, getD-set-other}
 use Rattle.algebra.specs.Sequence.{at, all-below}
 use Rattle.algebra.specs.Equations as equations
-use Rattle.algebra.proofs.Sequence.{yes-true, all-below-intro}
+use Rattle.algebra.proofs.Sequence.{yes-true, all-below-intro, at-zeros}
 use Rattle.algebra.proofs.Equations.{Solves-from, solve-row, Two, two, unique, bare-solved}
 use Rattle.field.specs.Field.{q}
-use Rattle.field.proofs.Elem.{same, ring-of, el, el-is}
+use Rattle.field.proofs.Elem.{same, ring-of, el, el-is, zero-below, el-zero}
 use Rattle.linear.specs.System.{Vector, entry, residue, Solved, Echelon, Finished, one, more}
 use Rattle.linear.specs.Buffer.{Backed}
-use Rattle.linear.proofs.Rows.{at-zeros}
-use Rattle.linear.proofs.Elements.{zero-below, el-zero, zero-of, one-not-zero, rows, vec, vector-below, row-of, residue-is, echelon-to, solved-to, solved-of, listed, at-listed, listed-vector, listed-solved, vector-ext}
+use Rattle.linear.proofs.Elements.{zero-of, one-not-zero, rows, vec, vector-below, row-of, residue-is, echelon-to, solved-to, solved-of, listed, at-listed, listed-vector, listed-solved, vector-ext}
 
 -- the unknowns from j up solve the rows from j up; those below are 0
 pub record Backing (f k : ℕ) (w : List ℕ) (j : ℕ) (xs : List ℕ) : Type 0 where

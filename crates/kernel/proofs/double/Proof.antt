@@ -22,11 +22,11 @@ abbrev μ-loop : tie.MeasureT-loop
 loop-holds : tie.Need-loop-holds Inv-loop μ-loop
 loop-holds c = let t = c .before .args .t .now in (omega arith, filled-none (entry t) t)
 
-slice-read-double-byte : tie.Need-slice-read-double-byte Inv-loop μ-loop
-slice-read-double-byte c = search needs
+slice-read-double : tie.Need-slice-read-double Inv-loop μ-loop
+slice-read-double c = search needs
 
-double-byte-requires : tie.Need-double-byte-requires Inv-loop μ-loop
-double-byte-requires c κs = search needs
+double-requires : tie.Need-double-requires Inv-loop μ-loop
+double-requires c κs = search needs
 
 slice-write-t : tie.Need-slice-write-t Inv-loop μ-loop
 slice-write-t c = search needs
@@ -42,7 +42,7 @@ loop-again c =
     let l = c .before .before .before .loop in
     let t = c .before .before .before .before .before .args .t .now in
     let F = l .inv .1 in
-    (omega (arith, F .size), filled-more (entry t) (l .i) (c .double-byte .result) t (l .t) (c .before .before .loop-test .taken) (c .double-byte .ensures ∙ ap doubled (F .above (l .i) (omega arith))) F)
+    (omega (arith, F .size), filled-more (entry t) (l .i) (c .double .result) t (l .t) (c .before .before .loop-test .taken) (c .double .ensures ∙ ap doubled (F .above (l .i) (omega arith))) F)
 
 same-length : tie.Need-same-length Inv-loop μ-loop
 same-length c = c .before .loop .inv .1 .size
@@ -60,8 +60,8 @@ double-spec =
     Inv-loop
     μ-loop
     loop-holds
-    slice-read-double-byte
-    double-byte-requires
+    slice-read-double
+    double-requires
     slice-write-t
     add-i
     loop-less

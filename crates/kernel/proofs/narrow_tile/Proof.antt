@@ -1,64 +1,41 @@
 use borrow.Author.Needs.{needs}
-use mathlib.Core.Path.{_≡_, sym, ap, _∙_}
-use Prim.Native.Nat.{_+_, _-_, _≤_}
+use mathlib.Core.Path.{sym}
+use Prim.Native.Nat.{_-_}
 use native.Mathlib.Omega.{arith}
-use lib.ListN.{length}
-use Rattle.field.specs.Field.{doubled}
-use Rattle.algebra.specs.Sequence.{at, tabulate}
-use Rattle.kernel.specs.Plan.{horner}
 use Rattle.kernel.proofs.Rows.{reach-less}
-use Rattle.kernel.proofs.Tiles.{length-table, horner-first, horner-next, tiled-of}
+use Rattle.kernel.proofs.Tiles.{Held, held-first, held-next, held-size, held-doubled, held-tiled}
 use Rattle.kernel.proofs.narrow_tile.Statement.{statement}
 use Rattle.kernel.proofs.narrow_tile.Tie as tie
 
 abbrev Inv-loop : tie.InvT-loop
-Inv-loop offsets counts strips output c t₀ m₀ t m = (1 ≤ m) × (m ≤ 8) × (t ≡ tabulate (λ i. horner strips offsets counts (c + i) m) 64)
+Inv-loop offsets counts strips output c t₀ m₀ t m = Held 64 strips offsets counts c m t
 
 abbrev μ-loop : tie.MeasureT-loop
 μ-loop offsets counts strips output c t₀ m₀ t m = 8 - m
-
--- the tile has 64 entries
-size : (c : tie.At-loop Inv-loop μ-loop) → length (c .loop .t) ≡ 64
-size c =
-    let a = c .before .before .before .before .before .before .args in
-    length-table (λ i. horner (a .strips .now) (a .offsets .now) (a .counts .now) (a .c + i) (c .loop .m)) 64 (c .loop .t) (c .loop .inv .2)
-
--- and so when doubled
-doubled-size : (c : tie.After-double Inv-loop μ-loop) → length (c .double .last .0) ≡ 64
-doubled-size c =
-    let t = c .before .before .before .loop .t in
-    length-table (λ i. doubled (at t i)) (length t) (c .double .last .0) (c .double .ensures) ∙ size (c .before .before .before)
 
 slice-aggregate-add-row : tie.Need-slice-aggregate-add-row Inv-loop μ-loop
 slice-aggregate-add-row c = search needs
 
 add-row-requires : tie.Need-add-row-requires Inv-loop μ-loop
-add-row-requires c κs =
-    let s = c .before .before .before in
-    let a = s .args in
-    (omega arith, reach-less (a .c + 64) (length (a .output .now)) (length (a .strips .now)) (a .offsets .now) (a .counts .now) (s .pre .0) (s .pre .1))
+add-row-requires c κs = let s = c .before .before .before in (omega arith, reach-less (s .pre .0) (s .pre .1))
 
 loop-holds : tie.Need-loop-holds Inv-loop μ-loop
-loop-holds c =
-    let a = c .before .before .before .before .before .args in
-    (omega arith, omega arith, horner-first (a .strips .now) (a .offsets .now) (a .counts .now) (a .c) 64 (c .before .add-row .last .0) (c .before .add-row .ensures))
+loop-holds c = held-first (c .before .add-row .ensures)
 
 slice-aggregate-double : tie.Need-slice-aggregate-double Inv-loop μ-loop
-slice-aggregate-double c = sym (size (c .before .before))
+slice-aggregate-double c = sym (held-size (c .before .before .loop .inv))
 
 double-requires : tie.Need-double-requires Inv-loop μ-loop
 double-requires c κs = search needs
 
 slice-aggregate-add-row-2 : tie.Need-slice-aggregate-add-row-2 Inv-loop μ-loop
-slice-aggregate-add-row-2 c = sym (doubled-size (c .before .before))
+slice-aggregate-add-row-2 c = sym (held-doubled (c .before .before .before .before .before .loop .inv) (c .before .before .double .ensures))
 
 add-row-requires-2 : tie.Need-add-row-requires-2 Inv-loop μ-loop
 add-row-requires-2 c κs =
     let s = c .before .before .before .before .before .before .before .before .before .before .before in
-    let a = s .args in
-    let d = length (c .before .before .double .last .0) in
-    let h : a .c + d ≤ length (a .output .now) = omega (arith, doubled-size (c .before .before), s .pre .0) in
-    (omega arith, reach-less (a .c + d) (length (a .output .now)) (length (a .strips .now)) (a .offsets .now) (a .counts .now) h (s .pre .1))
+    let d = held-doubled (c .before .before .before .before .before .loop .inv) (c .before .before .double .ensures) in
+    (omega arith, reach-less (omega (arith, d, s .pre .0)) (s .pre .1))
 
 add-m : tie.Need-add-m Inv-loop μ-loop
 add-m c = search needs
@@ -67,34 +44,19 @@ loop-less : tie.Need-loop-less Inv-loop μ-loop
 loop-less c = search needs
 
 loop-again : tie.Need-loop-again Inv-loop μ-loop
-loop-again c =
-    let a = c .before .before .before .before .before .before .before .before .before .before .before .before .before .args in
-    let l = c .before .before .before .before .before .before .before .loop in
-    let d = c .before .before .before .before .double in
-    let r = c .before .add-row2 in (
-      omega arith,
-      omega arith,
-      horner-next (a .strips .now) (a .offsets .now) (a .counts .now) (a .c) 64 (l .m) (l .t) (d .last .0) (r .last .0) (l .inv .2) (d .ensures) (r .ensures),
-    )
+loop-again c = held-next (c .before .before .before .before .before .before .loop-test .taken) (c .before .before .before .before .before .before .before .loop .inv) (c .before .before .before .before .double .ensures) (c .before .add-row2 .ensures)
 
 slice-aggregate-copy : tie.Need-slice-aggregate-copy Inv-loop μ-loop
-slice-aggregate-copy c = sym (size (c .before .before))
+slice-aggregate-copy c = sym (held-size (c .before .before .loop .inv))
 
 copy-requires : tie.Need-copy-requires Inv-loop μ-loop
-copy-requires c κs =
-    let s = c .before .before .before .before .before .before .before .before .before in
-    (omega (arith, size (c .before .before .before)), s .pre .0)
+copy-requires c κs = (omega (arith, held-size (c .before .before .before .loop .inv)), c .before .before .before .before .before .before .before .before .before .pre .0)
 
 same-length : tie.Need-same-length Inv-loop μ-loop
 same-length c = c .before .before .copy .ensures .size
 
 returns : tie.Need-returns Inv-loop μ-loop
-returns c =
-    let a = c .before .before .before .before .before .before .before .before .before .before .before .before .args in
-    let l = c .before .before .before .before .before .before .loop in
-    let e : l .m ≡ 8 = omega arith in
-    tiled-of (a .strips .now) (a .offsets .now) (a .counts .now) 64 (a .c) (l .t) (a .output .now) (c .before .before .copy .last .1 .1 .1 .0)
-    (l .inv .2 ∙ ap (λ m. tabulate (λ i. horner (a .strips .now) (a .offsets .now) (a .counts .now) (a .c + i) m) 64) e) (c .before .before .copy .ensures)
+returns c = held-tiled (c .before .before .before .before .before .loop-test .left) (c .before .before .before .before .before .before .loop .inv) (c .before .before .copy .ensures)
 
 pub narrow-tile-spec : {M : Type 1} → statement M
 narrow-tile-spec =

@@ -18,7 +18,7 @@ sub-last : tie.Need-sub-last Inv-loop μ-loop
 sub-last c = search needs
 
 loop-holds : tie.Need-loop-holds Inv-loop μ-loop
-loop-holds c = let a = c .before .before .args in rebuilt-none (a .strips .now) (a .offsets .now) (a .counts .now) (a .output .now)
+loop-holds c = rebuilt-none
 
 least-requires : tie.Need-least-requires Inv-loop μ-loop
 least-requires c κs = search needs
@@ -26,11 +26,8 @@ least-requires c κs = search needs
 wide-tile-requires : tie.Need-wide-tile-requires Inv-loop μ-loop
 wide-tile-requires c κs =
     let s = c .before .before .before .before .before .before in
-    let a = s .args in
-    let l = c .before .before .before .loop in (
-      omega (arith, l .inv .size, c .before .least .ensures .1, s .pre .0),
-      reach-less (length (l .output)) (length (a .output .now)) (length (a .strips .now)) (a .offsets .now) (a .counts .now) (omega (arith, l .inv .size)) (s .pre .2),
-    )
+    let l = c .before .before .before .loop in
+    (omega (arith, l .inv .size, c .before .least .ensures .1, s .pre .0), reach-less (omega (arith, l .inv .size)) (s .pre .2))
 
 add-c : tie.Need-add-c Inv-loop μ-loop
 add-c c = omega (arith, c .before .before .before .before .before .before .before .before .before .pre .1)
@@ -40,20 +37,14 @@ loop-less c = search needs
 
 loop-again : tie.Need-loop-again Inv-loop μ-loop
 loop-again c =
-    let a = c .before .before .before .before .before .before .before .before .before .args in
-    let l = c .before .before .before .before .before .before .loop in
     let b = c .before .before .before .before .least in
-    let t = c .before .before .wide-tile in
-    rebuilt-more (a .strips .now) (a .offsets .now) (a .counts .now) 128 (b .result) (l .c) (a .output .now) (l .output) (t .last .1 .1 .1 .0) (b .ensures .0) (b .ensures .2) (l .inv) (t .ensures)
+    rebuilt-more (b .ensures .0) (b .ensures .2) (c .before .before .before .before .before .before .loop .inv) (c .before .before .wide-tile .ensures)
 
 same-length : tie.Need-same-length Inv-loop μ-loop
 same-length c = c .before .loop .inv .size
 
 returns : tie.Need-returns Inv-loop μ-loop
-returns c =
-    let a = c .before .before .before .before .args in
-    let l = c .before .loop in
-    rebuilt-all (a .strips .now) (a .offsets .now) (a .counts .now) (l .c) (length (a .output .now)) (a .output .now) (l .output) (c .loop-test .left) (l .inv)
+returns c = rebuilt-all (c .loop-test .left) (c .before .loop .inv)
 
 pub wide-tiles-spec : {M : Type 1} → statement M
 wide-tiles-spec =
