@@ -1,0 +1,5 @@
+pub mod Rows
+pub mod Values
+pub mod Step
+pub mod Settling
+pub mod Uniqueness

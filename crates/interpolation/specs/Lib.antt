@@ -1,0 +1,2 @@
+pub mod Interpolated
+pub mod Newton
