@@ -1,6 +1,8 @@
 -- Messages spread over monomials: symbol m is the coefficient of X to the power e m, for any exponents e that differ. Assumes nothing.
 --   terms e x m ss       == the sum of s times x to the power e m over the symbols s of ss, the first of them symbol m
 --   spread e m ss j      == the coefficient of X to the power j in that sum
+--   spread-at, spread-out    at an exponent it is the symbol, elsewhere 0
+--   eval-spread          the polynomial of these coefficients has the sums as its values
 --   monomial-code        the code of these polynomials' values at points that differ
 --   symbol-terms         its symbols are such sums
 use mathlib.Core.Path.{_≡_, refl, sym, ap, ap₂, _∙_}
@@ -8,10 +10,10 @@ use mathlib.Core.Logic.{_≢_}
 use mathlib.Core.Bool.{Bool, true, false, cond}
 use mathlib.Core.List.{List, [], _∷_}
 use Prim.Native.Nat.{ℕ, zero, suc, _+_, _-_, _≤_, _<_}
-use native.Mathlib.Nat.{le-refl, sub-zero}
+use native.Mathlib.Nat.{le-refl, sub-zero, add-zero, add-suc, suc-add}
 use native.Mathlib.Omega.{arith}
 use lib.Dec.{eqb}
-use lib.ListN.{length}
+use lib.ListN.{length, getD}
 use Rattle.algebra.specs.Ring.{Ring, Field, pow}
 use Rattle.algebra.specs.Sequence.{tabulate-from, tabulate}
 use Rattle.algebra.specs.Polynomial.{eval, Zeros, diff}
@@ -89,7 +91,7 @@ module _ (R : Ring) (e : ℕ → ℕ) where
   spread m [] j = 𝟘
   spread m (s ∷ ss) j = cond (eqb (e m) j) s 𝟘 ⊕ spread (suc m) ss j
 
-  eval-spread : (x : El) (l m : ℕ) (ss : List El) → ((i : ℕ) → m ≤ i → i < m + length ss → e i < l)
+  pub eval-spread : (x : El) (l m : ℕ) (ss : List El) → ((i : ℕ) → m ≤ i → i < m + length ss → e i < l)
       → eval R (tabulate-from (spread m ss) l 0) x ≡ terms x m ss
   unfolding spread terms lone
   eval-spread x l m [] h = eval-tabulate-nil R x l 0
@@ -111,7 +113,7 @@ module _ (R : Ring) (e : ℕ → ℕ) where
       go true = refl
       go false = sym (sub-self R 𝟘)
 
-  spread-out : (m : ℕ) (ss : List El) (j : ℕ) → ((i : ℕ) → m ≤ i → i < m + length ss → e i ≢ j) → spread m ss j ≡ 𝟘
+  pub spread-out : (m : ℕ) (ss : List El) (j : ℕ) → ((i : ℕ) → m ≤ i → i < m + length ss → e i ≢ j) → spread m ss j ≡ 𝟘
   unfolding spread
   spread-out m [] j h = refl
   spread-out m (s ∷ ss) j h = go (eqb (e m) j) (same? (e m) j) (spread-out (suc m) ss j (λ i a b. h i (omega arith) (omega arith)))
@@ -119,6 +121,24 @@ module _ (R : Ring) (e : ℕ → ℕ) where
       go : {y : El} (b : Bool) → Same (e m) j b → y ≡ 𝟘 → cond b s 𝟘 ⊕ y ≡ 𝟘
       go true (same p) z = absurd (h m (omega arith) (omega arith) p)
       go {y} false n z = nil-add R y ∙ z
+
+  pub spread-at : ((i j : ℕ) → e i ≡ e j → i ≡ j) → (m : ℕ) (ss : List El) (i : ℕ) → i < length ss → spread m ss (e (m + i)) ≡ getD ss i 𝟘
+  unfolding spread
+  spread-at apart m [] i h = absurd (omega arith)
+  spread-at apart m (s ∷ ss) zero h = rw (add-zero m) (go (eqb (e m) (e m)) (same? (e m) (e m)) (spread-out (suc m) ss (e m) (λ i a b p. later i a (apart i m p))))
+    where
+      later : (i : ℕ) → suc m ≤ i → i ≢ m
+      later i a p = omega arith
+
+      go : {y : El} (b : Bool) → Same (e m) (e m) b → y ≡ 𝟘 → cond b s 𝟘 ⊕ y ≡ s
+      go true p z = ap (λ w. s ⊕ w) z ∙ add-nil s
+      go false (other n) z = absurd (n refl)
+  spread-at apart m (s ∷ ss) (suc i) h =
+      rw (add-suc m i) (go (eqb (e m) (e (suc (m + i)))) (same? (e m) (e (suc (m + i)))) (rw (suc-add m i) at (spread-at apart (suc m) ss i (omega arith))))
+    where
+      go : {y z : El} (b : Bool) → Same (e m) (e (suc (m + i))) b → y ≡ z → cond b s 𝟘 ⊕ y ≡ z
+      go true (same p) w = let d : m ≡ suc (m + i) = apart m (suc (m + i)) p in absurd (omega arith)
+      go {y} false n w = nil-add R y ∙ w
 
   -- no coefficient at the exponents: no symbol
   zeros-spread : (m : ℕ) (ss : List El) → ((i j : ℕ) → m ≤ i → i < m + length ss → m ≤ j → j < m + length ss → e i ≡ e j → i ≡ j)

@@ -25,7 +25,7 @@ module _ (c : Code) (G : Good c) where
   unfolding exponent raised
   exponent-injective i j e = raised-injective (c .r) (size c) (G .r-least) (omega (arith, size-is c)) i j e
 
-  exponent-monotone : (i j : ℕ) → i ≤ j → exponent c i ≤ exponent c j
+  pub exponent-monotone : (i j : ℕ) → i ≤ j → exponent c i ≤ exponent c j
   unfolding exponent raised size
   exponent-monotone i j h = raised-monotone (c .r) (tolerance c) (G .r-least) i j h
 

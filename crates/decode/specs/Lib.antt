@@ -2,3 +2,4 @@ pub mod Verdict
 pub mod Losses
 pub mod Recording
 pub mod Gathering
+pub mod Interpolating

@@ -10,6 +10,7 @@ ghost use Rattle.linear.specs.System.{Echelon};
 ghost use Rattle.decode.specs.Verdict.{decode-refusal, Verdict, Decode-says};
 ghost use Rattle.decode.specs.Losses.{marks-refusal, Grade-says, Losses-says, First-says};
 ghost use Rattle.decode.specs.Gathering.{Taken, Gathered};
+ghost use Rattle.decode.specs.Interpolating.{Pointed, gaps-zero, message-of};
 ghost use Rattle.decode.specs.Recording.{Is-verdict, outcome-number, blank, Record-says};
 use code::Answer;
 use code::Code;
@@ -84,6 +85,114 @@ fn gather(
     true
 }
 
+// Elimination. 0: just one message fits, and is written; 9: none; 10: more than one. All of work is left 0.
+fn solve_beyond(
+    code: Code,
+    word: &[u8],
+    marks: &[u8],
+    message: &mut [u8],
+    work: &mut [u8],
+    powers: &[u8; 255],
+    logs: &[u8; 256],
+) -> u32
+    requires { ⌜ (code-refusal code ≡ 0) × (length (now word) ≡ code .n) × (length (now marks) ≡ code .n) × (kept-below code (now word) (now marks) ≡ true) × (length (now message) ≡ code .k) × (code .k * (code .k + 1) + (code .k + 1) ≤ length (now work)) × Powers 1 (now powers) × Logs (now logs) ⌝ }
+    ensures { λ x. ⌜ Verdict code (now (word .entry)) (now (marks .entry)) (now (message .entry)) (now (message .exit)) x × (now (work .exit) ≡ replicate (length (now (work .entry))) 0) ⌝ }
+{
+    if !gather(code, word, marks, work, powers, logs) {
+        linear::clear(work);
+        return 9;
+    }
+    let k = code.k as usize;
+    let one = linear::finish(code.field, work, k, message, powers, logs);
+    linear::clear(work);
+    if one {
+        return 0;
+    }
+    10
+}
+
+// Writes the points of the slots.
+fn fill_points(code: Code, points: &mut [u8; 256])
+    requires { ⌜ (code-refusal code ≡ 0) × (length (now points) ≡ 256) ⌝ }
+    ensures { λ _. ⌜ Pointed code (now (points .exit)) ⌝ }
+{
+    let slots = code.n;
+    let mut p: u32 = 0;
+    while p < slots {
+        points[p as usize] = code::point_of(code, p);
+        p += 1;
+    }
+}
+
+// Whether every coefficient at an exponent that no message symbol has is 0.
+fn gaps_zero(code: Code, coefs: &[u8; 256]) -> bool
+    requires { ⌜ code-refusal code ≡ 0 ⌝ }
+    ensures { λ x. ⌜ x ≡ gaps-zero code (now (coefs .entry)) ⌝ }
+{
+    let r = code.r as usize;
+    let k = code.k as usize;
+    let gaps = (k - 1) / r;
+    let mut j: usize = 0;
+    while j < gaps {
+        if coefs[j * (r + 1) + r] != 0 {
+            return false;
+        }
+        j += 1;
+    }
+    true
+}
+
+// Reads the message symbols off the coefficients at their exponents.
+fn read_message(code: Code, coefs: &[u8; 256], message: &mut [u8])
+    requires { ⌜ (code-refusal code ≡ 0) × (length (now message) ≡ code .k) ⌝ }
+    ensures { λ _. ⌜ now (message .exit) ≡ message-of code (now (coefs .entry)) ⌝ }
+{
+    let r = code.r as usize;
+    let k = code.k as usize;
+    let mut m: usize = 0;
+    while m < k {
+        message[m] = coefs[m + m / r];
+        m += 1;
+    }
+}
+
+// Interpolation, for losses within the guarantee. 0: just one message fits, and is written; 9: none.
+fn solve_within(
+    code: Code,
+    word: &[u8],
+    marks: &[u8],
+    message: &mut [u8],
+    powers: &[u8; 255],
+    logs: &[u8; 256],
+) -> u32
+    requires { ⌜ (code-refusal code ≡ 0) × (length (now word) ≡ code .n) × (length (now marks) ≡ code .n) × (kept-below code (now word) (now marks) ≡ true) × (length (now message) ≡ code .k) × (lost-number code (now marks) ≤ guarantee code) × Powers 1 (now powers) × Logs (now logs) ⌝ }
+    ensures { λ x. ⌜ Verdict code (now (word .entry)) (now (marks .entry)) (now (message .entry)) (now (message .exit)) x ⌝ }
+{
+    let n = code.n as usize;
+    let sure = guarantee_of(code) as usize;
+    let mut points = [0u8; 256];
+    let mut coefs = [0u8; 256];
+    fill_points(code, &mut points);
+    if !interpolation::interpolate(
+        code.field,
+        n,
+        n - sure,
+        &points,
+        word,
+        marks,
+        &mut coefs,
+        powers,
+        logs,
+    ) {
+        return 9;
+    }
+    if !gaps_zero(code, &coefs) {
+        return 9;
+    }
+    read_message(code, &coefs, message);
+    0
+}
+
 // 0: just one message fits, and is written; 9: none; 10: more than one. All of work is left 0.
 fn solve(code: Code, word: &[u8], marks: &[u8], message: &mut [u8], work: &mut [u8]) -> u32
     requires { ⌜ (code-refusal code ≡ 0) × (length (now word) ≡ code .n) × (length (now marks) ≡ code .n) × (kept-below code (now word) (now marks) ≡ true) × (length (now message) ≡ code .k) × (code .k * (code .k + 1) + (code .k + 1) ≤ length (now work)) ⌝ }
@@ -91,17 +200,13 @@ fn solve(code: Code, word: &[u8], marks: &[u8], message: &mut [u8], work: &mut [
 {
     let powers = field::power_table();
     let logs = field::log_table();
-    if !gather(code, word, marks, work, &powers, &logs) {
-        linear::clear(work);
-        return 9;
+    let lost = count_lost(code, marks);
+    let sure = guarantee_of(code);
+    if lost > sure {
+        return solve_beyond(code, word, marks, message, work, &powers, &logs);
     }
-    let k = code.k as usize;
-    let one = linear::finish(code.field, work, k, message, &powers, &logs);
     linear::clear(work);
-    if one {
-        return 0;
-    }
-    10
+    solve_within(code, word, marks, message, &powers, &logs)
 }
 
 // The refusal of decode, or 0; message and work are their buffers' lengths.
