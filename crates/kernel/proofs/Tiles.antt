@@ -14,7 +14,7 @@ use mathlib.Core.Logic.{_⊎_, ⊎-elim}
 use mathlib.Core.List.{List}
 use Prim.Native.Nat.{ℕ, suc, _+_, _*_, _-_, _≤_, _<_}
 use native.Mathlib.Decide.{ℕ-discrete}
-use native.Mathlib.Nat.{zero-add, add-assoc}
+use native.Mathlib.Nat.{zero-add, add-zero, add-assoc}
 use native.Mathlib.Numerals.{add-one}
 use native.Mathlib.Omega.{arith}
 use lib.ListN.{length, take, set, length-set, replicate, length-replicate, getD-replicate}
@@ -23,6 +23,7 @@ use Rattle.algebra.specs.Sequence.{at, tabulate}
 use Rattle.algebra.proofs.Sequence.{length-tabulate, at-tabulate, tabulate-is, tabulate-same}
 use Rattle.field.specs.Field.{xor-from, doubled}
 use Rattle.field.specs.Polynomial.{dotted}
+use Rattle.field.proofs.Byte.{_⊕_, zero-⊕}
 use Rattle.code.specs.Repair.{column}
 use Rattle.kernel.specs.Columns.{Combined}
 use Rattle.kernel.specs.Plan.{sum, row-symbol, horner, Planned, Copied, Tiled, Rebuilt}
@@ -36,22 +37,30 @@ at-table f n i t e h = ap (λ l. at l i) e ∙ at-tabulate f 0 n i h
 pub length-table : (f : ℕ → ℕ) (n : ℕ) (t : List ℕ) → t ≡ tabulate f n → length t ≡ n
 length-table f n t e = ap (λ l. length l) e ∙ length-tabulate f n
 
-module _ (xs os : List ℕ) (m c : ℕ) (t : List ℕ) where
-  pub added-none : t ≡ tabulate (λ i. sum (at t i) (row-symbol xs os m (c + i)) 0) (length t)
-  added-none = tabulate-is (λ i. sum (at t i) (row-symbol xs os m (c + i)) 0) 0 (length t) t refl (λ i h. sym (sum-none (at t i) (row-symbol xs os m (c + i))))
+-- a tile of n columns from c on with the first strips of row m added, to the values b
+module _ (xs os : List ℕ) (m c : ℕ) (b : ℕ → ℕ) (n : ℕ) where
+  abbrev pub added : ℕ → ℕ → ℕ
+  added k i = sum (b i) (row-symbol xs os m (c + i)) k
 
-  pub added-more : (k : ℕ) (y z : List ℕ) → y ≡ tabulate (λ i. sum (at t i) (row-symbol xs os m (c + i)) k) (length t)
-      → z ≡ tabulate (λ i. xor-from 8 (at y i) (at xs (at os (m * 16 + k) + c + i))) (length y)
-      → z ≡ tabulate (λ i. sum (at t i) (row-symbol xs os m (c + i)) (k + 1)) (length t)
+  pub added-none : (t : List ℕ) → length t ≡ n → ((i : ℕ) → i < n → at t i ≡ b i) → t ≡ tabulate (added 0) n
+  added-none t s e = tabulate-is (added 0) 0 n t s (λ i h. e i h ∙ sym (sum-none (b i) (row-symbol xs os m (c + i))))
+
+  pub added-more : (k : ℕ) (y z : List ℕ) → y ≡ tabulate (added k) n
+      → z ≡ tabulate (λ i. xor-from 8 (at y i) (at xs (at os (m * 16 + k) + c + i))) (length y) → z ≡ tabulate (added (k + 1)) n
   added-more k y z p q =
-      let s = length-table (λ i. sum (at t i) (row-symbol xs os m (c + i)) k) (length t) y p in
-      q ∙ ap (tabulate (λ i. xor-from 8 (at y i) (at xs (at os (m * 16 + k) + c + i)))) s
-      ∙ tabulate-same 0 (λ i. xor-from 8 (at y i) (at xs (at os (m * 16 + k) + c + i))) (λ i. sum (at t i) (row-symbol xs os m (c + i)) (k + 1)) (length t)
-      (λ i h. ap₂ (xor-from 8) (at-table (λ i. sum (at t i) (row-symbol xs os m (c + i)) k) (length t) i y p h) (ap (at xs) (add-assoc (at os (m * 16 + k)) c i))
-      ∙ sym (ap (sum (at t i) (row-symbol xs os m (c + i))) (add-one k) ∙ sum-more (at t i) (row-symbol xs os m (c + i)) k))
+      q ∙ ap (tabulate (λ i. xor-from 8 (at y i) (at xs (at os (m * 16 + k) + c + i)))) (length-table (added k) n y p)
+      ∙ tabulate-same 0 (λ i. xor-from 8 (at y i) (at xs (at os (m * 16 + k) + c + i))) (added (k + 1)) n
+      (λ i h. ap₂ (xor-from 8) (at-table (added k) n i y p h) (ap (at xs) (add-assoc (at os (m * 16 + k)) c i))
+      ∙ sym (ap (sum (b i) (row-symbol xs os m (c + i))) (add-one k) ∙ sum-more (b i) (row-symbol xs os m (c + i)) k))
 
-abbrev pub zeros : ℕ → List ℕ
-zeros n = replicate n 0
+-- the first strip written to a tile
+pub added-first : (xs os : List ℕ) (m c : ℕ) (t z : List ℕ) → ((i : ℕ) → at xs i < 256) → Copied (length t) xs (at os (m * 16) + c) t 0 z
+    → z ≡ tabulate (added xs os m c (λ i. 0) (length t) 1) (length t)
+added-first xs os m c t z small C =
+    tabulate-is (added xs os m c (λ i. 0) (length t) 1) 0 (length t) z (C .size)
+    (λ i h. let e : at os (m * 16 + 0) + (c + i) ≡ at os (m * 16) + c + i = ap (λ n. at os n + (c + i)) (add-zero (m * 16)) ∙ sym (add-assoc (at os (m * 16)) c i) in
+    ap (at z) (sym (zero-add i)) ∙ C .new i h
+    ∙ sym (sum-more 0 (row-symbol xs os m (c + i)) 0 ∙ ap₂ _⊕_ (sum-none 0 (row-symbol xs os m (c + i))) (ap (at xs) e) ∙ zero-⊕ (small (at os (m * 16) + c + i))))
 
 module _ (xs os ns : List ℕ) (c n : ℕ) where
   -- row m added to a tile of the doubled values
@@ -63,6 +72,9 @@ module _ (xs os ns : List ℕ) (c n : ℕ) where
       ∙ tabulate-same 0 (λ i. sum (at y i) (row-symbol xs os m (c + i)) (at ns m)) (λ i. horner xs os ns (c + i) (suc m)) n
       (λ i h. ap (λ a. sum a (row-symbol xs os m (c + i)) (at ns m)) (d i h) ∙ sym (horner-more xs os ns (c + i) m))
 
+abbrev pub zeros : ℕ → List ℕ
+zeros n = replicate n 0
+
 -- a tile of n columns from c on after some rows: each of its entries is its column's value
 pub record Held (n : ℕ) (xs os ns : List ℕ) (c m : ℕ) (t : List ℕ) : Type 0 where
   pub some : 1 ≤ m
@@ -70,13 +82,15 @@ pub record Held (n : ℕ) (xs os ns : List ℕ) (c m : ℕ) (t : List ℕ) : Typ
   pub values : t ≡ tabulate (λ i. horner xs os ns (c + i) m) n
 
 module _ {n : ℕ} {xs os ns : List ℕ} {c : ℕ} where
-  pub held-first : {z : List ℕ} → z ≡ tabulate (λ i. sum (at (zeros n) i) (row-symbol xs os 0 (c + i)) (at ns 0)) (length (zeros n)) → Held n xs os ns c 1 z
-  held-first {z} q =
+  pub held-first : {z : List ℕ} → z ≡ tabulate (λ i. sum 0 (row-symbol xs os 0 (c + i)) (at ns 0)) n → Held n xs os ns c 1 z
+  held-first q =
       let d : doubled 0 ≡ 0 = unfold doubled in refl in
       record {
         some = omega arith;
         most = omega arith;
-        values = next xs os ns c n 0 (zeros n) z (length-replicate n 0) (λ i h. getD-replicate n i 0 0 h ∙ sym (ap doubled (horner-none xs os ns (c + i)) ∙ d)) q;
+        values =
+            q ∙ tabulate-same 0 (λ i. sum 0 (row-symbol xs os 0 (c + i)) (at ns 0)) (λ i. horner xs os ns (c + i) 1) n
+            (λ i h. sym (horner-more xs os ns (c + i) 0 ∙ ap (λ a. sum a (row-symbol xs os 0 (c + i)) (at ns 0)) (ap doubled (horner-none xs os ns (c + i)) ∙ d)));
       }
 
   pub held-size : {m : ℕ} {t : List ℕ} → Held n xs os ns c m t → length t ≡ n

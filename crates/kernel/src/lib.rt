@@ -74,13 +74,30 @@ fn copy(source: &[u8], start: usize, n: usize, target: &mut [u8], to: usize)
     }
 }
 
+// Writes to t, which is 0, the sums of the columns from c on of the strips in row m of the plan.
+fn set_row(t: &mut [u8], offsets: &[u16; 128], counts: &[u8; 8], m: usize, strips: &[u8], c: usize)
+    requires { ⌜ (m < 8) × ((i : ℕ) → at (now t) i ≡ 0) × Reach (c + length (now t)) (length (now strips)) (now offsets) (now counts) ⌝ }
+    ensures { λ _. ⌜ now (t .exit) ≡ tabulate (λ i. sum 0 (row-symbol (now (strips .entry)) (now (offsets .entry)) m (c + i)) (at (now (counts .entry)) m)) (length (now (t .entry))) ⌝ }
+{
+    let n = counts[m] as usize;
+    if n == 0 {
+        return;
+    }
+    copy(strips, offsets[m * 16] as usize + c, t.len(), t, 0);
+    let mut k: usize = 1;
+    while k < n {
+        add(t, strips, offsets[m * 16 + k] as usize + c);
+        k += 1;
+    }
+}
+
 // Writes the columns c to c + 63.
 fn narrow_tile(offsets: &[u16; 128], counts: &[u8; 8], strips: &[u8], output: &mut [u8], c: usize)
     requires { ⌜ (c + 64 ≤ length (now output)) × Reach (length (now output)) (length (now strips)) (now offsets) (now counts) ⌝ }
     ensures { λ _. ⌜ Tiled 64 (now (strips .entry)) (now (offsets .entry)) (now (counts .entry)) c (now (output .entry)) (now (output .exit)) ⌝ }
 {
     let mut t = [0u8; 64];
-    add_row(&mut t, offsets, counts, 0, strips, c);
+    set_row(&mut t, offsets, counts, 0, strips, c);
     let mut m: usize = 1;
     while m < 8 {
         double(&mut t);
@@ -96,7 +113,7 @@ fn wide_tile(offsets: &[u16; 128], counts: &[u8; 8], strips: &[u8], output: &mut
     ensures { λ _. ⌜ Tiled 128 (now (strips .entry)) (now (offsets .entry)) (now (counts .entry)) c (now (output .entry)) (now (output .exit)) ⌝ }
 {
     let mut t = [0u8; 128];
-    add_row(&mut t, offsets, counts, 0, strips, c);
+    set_row(&mut t, offsets, counts, 0, strips, c);
     let mut m: usize = 1;
     while m < 8 {
         double(&mut t);

@@ -1,5 +1,5 @@
 use borrow.Author.Needs.{needs}
-use mathlib.Core.Path.{_≡_, ap, _∙_}
+use mathlib.Core.Path.{_≡_, refl, ap, _∙_}
 use Prim.Native.Nat.{_+_, _*_, _-_, _≤_}
 use native.Mathlib.Omega.{arith}
 use lib.ListN.{length}
@@ -25,7 +25,7 @@ cast-n c = let s = c .before .before .before in omega (arith, s .pre .1 .few (s 
 loop-holds : tie.Need-loop-holds Inv-loop μ-loop
 loop-holds c =
     let a = c .before .before .before .args in
-    (omega arith, added-none (a .strips .now) (a .offsets .now) (a .m) (a .c) (a .t .now))
+    (omega arith, added-none (a .strips .now) (a .offsets .now) (a .m) (a .c) (at (a .t .now)) (length (a .t .now)) (a .t .now) refl (λ i h. refl))
 
 -- the row has a place for mate k
 few : (c : tie.In-loop Inv-loop μ-loop) → at (c .before .before .before .before .before .args .counts .now) (c .before .before .before .before .before .args .m) ≤ 16
@@ -73,7 +73,7 @@ loop-again : tie.Need-loop-again Inv-loop μ-loop
 loop-again c =
     let l = c .before .before .before .before .before .before .loop in
     let a = c .before .before .before .before .before .before .before .before .before .before .args in
-    (omega arith, added-more (a .strips .now) (a .offsets .now) (a .m) (a .c) (a .t .now) (l .k) (l .t) (c .before .before .add .last .0) (l .inv .1) (c .before .before .add .ensures))
+    (omega arith, added-more (a .strips .now) (a .offsets .now) (a .m) (a .c) (at (a .t .now)) (length (a .t .now)) (l .k) (l .t) (c .before .before .add .last .0) (l .inv .1) (c .before .before .add .ensures))
 
 same-length : tie.Need-same-length Inv-loop μ-loop
 same-length c = size (c .before)

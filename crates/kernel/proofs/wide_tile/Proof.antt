@@ -2,6 +2,7 @@ use borrow.Author.Needs.{needs}
 use mathlib.Core.Path.{sym}
 use Prim.Native.Nat.{_-_}
 use native.Mathlib.Omega.{arith}
+use Rattle.algebra.proofs.Sequence.{at-zeros}
 use Rattle.kernel.proofs.Rows.{reach-less}
 use Rattle.kernel.proofs.Tiles.{Held, held-first, held-next, held-size, held-doubled, held-tiled}
 use Rattle.kernel.proofs.wide_tile.Statement.{statement}
@@ -13,14 +14,14 @@ Inv-loop offsets counts strips output c t₀ m₀ t m = Held 128 strips offsets 
 abbrev μ-loop : tie.MeasureT-loop
 μ-loop offsets counts strips output c t₀ m₀ t m = 8 - m
 
-slice-aggregate-add-row : tie.Need-slice-aggregate-add-row Inv-loop μ-loop
-slice-aggregate-add-row c = search needs
+slice-aggregate-set-row : tie.Need-slice-aggregate-set-row Inv-loop μ-loop
+slice-aggregate-set-row c = search needs
 
-add-row-requires : tie.Need-add-row-requires Inv-loop μ-loop
-add-row-requires c κs = let s = c .before .before .before in (omega arith, reach-less (s .pre .0) (s .pre .1))
+set-row-requires : tie.Need-set-row-requires Inv-loop μ-loop
+set-row-requires c κs = let s = c .before .before .before in (omega arith, at-zeros 128, reach-less (s .pre .0) (s .pre .1))
 
 loop-holds : tie.Need-loop-holds Inv-loop μ-loop
-loop-holds c = held-first (c .before .add-row .ensures)
+loop-holds c = held-first (c .before .set-row .ensures)
 
 slice-aggregate-double : tie.Need-slice-aggregate-double Inv-loop μ-loop
 slice-aggregate-double c = sym (held-size (c .before .before .loop .inv))
@@ -28,11 +29,11 @@ slice-aggregate-double c = sym (held-size (c .before .before .loop .inv))
 double-requires : tie.Need-double-requires Inv-loop μ-loop
 double-requires c κs = search needs
 
-slice-aggregate-add-row-2 : tie.Need-slice-aggregate-add-row-2 Inv-loop μ-loop
-slice-aggregate-add-row-2 c = sym (held-doubled (c .before .before .before .before .before .loop .inv) (c .before .before .double .ensures))
+slice-aggregate-add-row : tie.Need-slice-aggregate-add-row Inv-loop μ-loop
+slice-aggregate-add-row c = sym (held-doubled (c .before .before .before .before .before .loop .inv) (c .before .before .double .ensures))
 
-add-row-requires-2 : tie.Need-add-row-requires-2 Inv-loop μ-loop
-add-row-requires-2 c κs =
+add-row-requires : tie.Need-add-row-requires Inv-loop μ-loop
+add-row-requires c κs =
     let s = c .before .before .before .before .before .before .before .before .before .before .before in
     let d = held-doubled (c .before .before .before .before .before .loop .inv) (c .before .before .double .ensures) in
     (omega arith, reach-less (omega (arith, d, s .pre .0)) (s .pre .1))
@@ -44,7 +45,7 @@ loop-less : tie.Need-loop-less Inv-loop μ-loop
 loop-less c = search needs
 
 loop-again : tie.Need-loop-again Inv-loop μ-loop
-loop-again c = held-next (c .before .before .before .before .before .before .loop-test .taken) (c .before .before .before .before .before .before .before .loop .inv) (c .before .before .before .before .double .ensures) (c .before .add-row2 .ensures)
+loop-again c = held-next (c .before .before .before .before .before .before .loop-test .taken) (c .before .before .before .before .before .before .before .loop .inv) (c .before .before .before .before .double .ensures) (c .before .add-row .ensures)
 
 slice-aggregate-copy : tie.Need-slice-aggregate-copy Inv-loop μ-loop
 slice-aggregate-copy c = sym (held-size (c .before .before .loop .inv))
@@ -64,13 +65,13 @@ wide-tile-spec =
     (tie.spec
     Inv-loop
     μ-loop
-    slice-aggregate-add-row
-    add-row-requires
+    slice-aggregate-set-row
+    set-row-requires
     loop-holds
     slice-aggregate-double
     double-requires
-    slice-aggregate-add-row-2
-    add-row-requires-2
+    slice-aggregate-add-row
+    add-row-requires
     add-m
     loop-less
     loop-again
