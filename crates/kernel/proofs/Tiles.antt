@@ -100,13 +100,15 @@ module _ {n : ℕ} {xs os ns : List ℕ} {c : ℕ} where
   held-doubled {m} {x} {y} H q = length-table (λ i. doubled (at x i)) (length x) y q ∙ held-size H
 
   pub held-next : {m : ℕ} {x y z : List ℕ} → m < 8 → Held n xs os ns c m x → y ≡ tabulate (λ i. doubled (at x i)) (length x)
-      → z ≡ tabulate (λ i. sum (at y i) (row-symbol xs os m (c + i)) (at ns m)) (length y) → Held n xs os ns c (m + 1) z
+      → ((b : ℕ → ℕ) → y ≡ tabulate (added xs os m c b (length y) 0) (length y) → z ≡ tabulate (added xs os m c b (length y) (at ns m)) (length y))
+      → Held n xs os ns c (m + 1) z
   held-next {m} {x} {y} {z} b H q e =
       record {
         some = omega arith;
         most = omega arith;
         values = next xs os ns c n m y z (held-doubled H q)
-            (λ i h. at-table (λ i. doubled (at x i)) (length x) i y q (omega (arith, held-size H)) ∙ ap doubled (at-table (λ i. horner xs os ns (c + i) m) n i x (H .values) h)) e
+            (λ i h. at-table (λ i. doubled (at x i)) (length x) i y q (omega (arith, held-size H)) ∙ ap doubled (at-table (λ i. horner xs os ns (c + i) m) n i x (H .values) h))
+            (e (at y) (added-none xs os m c (at y) (length y) y refl (λ i h. refl)))
             ∙ ap (λ k. tabulate (λ i. horner xs os ns (c + i) k) n) (sym (add-one m));
       }
 

@@ -49,13 +49,23 @@ fn add(t: &mut [u8], strips: &[u8], o: usize)
     }
 }
 
-// Adds to t the columns from c on of the strips in row m of the plan.
-fn add_row(t: &mut [u8], offsets: &[u16; 128], counts: &[u8; 8], m: usize, strips: &[u8], c: usize)
-    requires { ⌜ (m < 8) × Reach (c + length (now t)) (length (now strips)) (now offsets) (now counts) ⌝ }
-    ensures { λ _. ⌜ now (t .exit) ≡ tabulate (λ i. sum (at (now (t .entry)) i) (row-symbol (now (strips .entry)) (now (offsets .entry)) m (c + i)) (at (now (counts .entry)) m)) (length (now (t .entry))) ⌝ }
+// Adds to t the columns from c on of the strips in row m of the plan, from strip start of the row on.
+fn add_row(
+    t: &mut [u8],
+    offsets: &[u16; 128],
+    counts: &[u8; 8],
+    m: usize,
+    start: usize,
+    strips: &[u8],
+    c: usize,
+)
+    requires { ⌜ (m < 8) × (start ≤ at (now counts) m) × Reach (c + length (now t)) (length (now strips)) (now offsets) (now counts) ⌝ }
+    ensures { λ _. ⌜ (length (now (t .exit)) ≡ length (now (t .entry))) × ((b : ℕ → ℕ)
+        → now (t .entry) ≡ tabulate (λ i. sum (b i) (row-symbol (now (strips .entry)) (now (offsets .entry)) m (c + i)) start) (length (now (t .entry)))
+        → now (t .exit) ≡ tabulate (λ i. sum (b i) (row-symbol (now (strips .entry)) (now (offsets .entry)) m (c + i)) (at (now (counts .entry)) m)) (length (now (t .entry)))) ⌝ }
 {
     let n = counts[m] as usize;
-    let mut k: usize = 0;
+    let mut k = start;
     while k < n {
         add(t, strips, offsets[m * 16 + k] as usize + c);
         k += 1;
@@ -79,16 +89,11 @@ fn set_row(t: &mut [u8], offsets: &[u16; 128], counts: &[u8; 8], m: usize, strip
     requires { ⌜ (m < 8) × ((i : ℕ) → at (now t) i ≡ 0) × Reach (c + length (now t)) (length (now strips)) (now offsets) (now counts) ⌝ }
     ensures { λ _. ⌜ now (t .exit) ≡ tabulate (λ i. sum 0 (row-symbol (now (strips .entry)) (now (offsets .entry)) m (c + i)) (at (now (counts .entry)) m)) (length (now (t .entry))) ⌝ }
 {
-    let n = counts[m] as usize;
-    if n == 0 {
+    if counts[m] == 0 {
         return;
     }
     copy(strips, offsets[m * 16] as usize + c, t.len(), t, 0);
-    let mut k: usize = 1;
-    while k < n {
-        add(t, strips, offsets[m * 16 + k] as usize + c);
-        k += 1;
-    }
+    add_row(t, offsets, counts, m, 1, strips, c);
 }
 
 // Writes the columns c to c + 63.
@@ -101,7 +106,7 @@ fn narrow_tile(offsets: &[u16; 128], counts: &[u8; 8], strips: &[u8], output: &m
     let mut m: usize = 1;
     while m < 8 {
         double(&mut t);
-        add_row(&mut t, offsets, counts, m, strips, c);
+        add_row(&mut t, offsets, counts, m, 0, strips, c);
         m += 1;
     }
     copy(&t, 0, 64, output, c);
@@ -117,7 +122,7 @@ fn wide_tile(offsets: &[u16; 128], counts: &[u8; 8], strips: &[u8], output: &mut
     let mut m: usize = 1;
     while m < 8 {
         double(&mut t);
-        add_row(&mut t, offsets, counts, m, strips, c);
+        add_row(&mut t, offsets, counts, m, 0, strips, c);
         m += 1;
     }
     copy(&t, 0, 128, output, c);

@@ -1,46 +1,38 @@
 use borrow.Author.Needs.{needs}
 use mathlib.Core.Path.{_≡_, refl, ap, _∙_}
-use Prim.Native.Nat.{_+_, _*_, _-_, _≤_}
+use Prim.Native.Nat.{ℕ, _+_, _*_, _-_, _≤_}
 use native.Mathlib.Omega.{arith}
 use lib.ListN.{length}
 use Rattle.algebra.specs.Sequence.{at, tabulate}
-use Rattle.kernel.specs.Plan.{sum, row-symbol}
-use Rattle.kernel.proofs.Tiles.{length-table, added-none, added-more}
+use Rattle.kernel.proofs.Tiles.{added, added-more}
 use Rattle.kernel.proofs.add_row.Statement.{statement}
 use Rattle.kernel.proofs.add_row.Tie as tie
 
 abbrev Inv-loop : tie.InvT-loop
-Inv-loop t₀ offsets counts m strips c n k₀ t k =
-    (k ≤ n) × (t ≡ tabulate (λ i. sum (at t₀ i) (row-symbol strips offsets m (c + i)) k) (length t₀))
+Inv-loop t₀ offsets counts m start strips c n k₀ t k =
+    (k ≤ n) × (length t ≡ length t₀)
+    × ((b : ℕ → ℕ) → t₀ ≡ tabulate (added strips offsets m c b (length t₀) start) (length t₀) → t ≡ tabulate (added strips offsets m c b (length t₀) k) (length t₀))
 
 abbrev μ-loop : tie.MeasureT-loop
-μ-loop t₀ offsets counts m strips c n k₀ t k = n - k
+μ-loop t₀ offsets counts m start strips c n k₀ t k = n - k
 
 element-copy-out-n : tie.Need-element-copy-out-n Inv-loop μ-loop
 element-copy-out-n c = search needs
 
 cast-n : tie.Need-cast-n Inv-loop μ-loop
-cast-n c = let s = c .before .before .before in omega (arith, s .pre .1 .few (s .args .m) (s .pre .0))
+cast-n c = let s = c .before .before .before in omega (arith, s .pre .2 .few (s .args .m) (s .pre .0))
 
 loop-holds : tie.Need-loop-holds Inv-loop μ-loop
-loop-holds c =
-    let a = c .before .before .before .args in
-    (omega arith, added-none (a .strips .now) (a .offsets .now) (a .m) (a .c) (at (a .t .now)) (length (a .t .now)) (a .t .now) refl (λ i h. refl))
+loop-holds c = (c .before .before .before .pre .1, refl, λ b e. e)
 
 -- the row has a place for mate k
 few : (c : tie.In-loop Inv-loop μ-loop) → at (c .before .before .before .before .before .args .counts .now) (c .before .before .before .before .before .args .m) ≤ 16
-few c = let s = c .before .before .before .before .before in s .pre .1 .few (s .args .m) (s .pre .0)
+few c = let s = c .before .before .before .before .before in s .pre .2 .few (s .args .m) (s .pre .0)
 
 -- and its tile lies within the strips
 within : (c : tie.In-loop Inv-loop μ-loop) → let a = c .before .before .before .before .before .args in
     at (a .offsets .now) (a .m * 16 + c .before .loop .k) + (a .c + length (a .t .now)) ≤ length (a .strips .now)
-within c = let s = c .before .before .before .before .before in s .pre .1 .within (s .args .m) (c .before .loop .k) (s .pre .0) (c .loop-test .taken)
-
--- the tile keeps its length
-size : (c : tie.At-loop Inv-loop μ-loop) → length (c .loop .t) ≡ length (c .before .before .before .before .args .t .now)
-size c =
-    let a = c .before .before .before .before .args in
-    length-table (λ i. sum (at (a .t .now) i) (row-symbol (a .strips .now) (a .offsets .now) (a .m) (a .c + i)) (c .loop .k)) (length (a .t .now)) (c .loop .t) (c .loop .inv .1)
+within c = let s = c .before .before .before .before .before in s .pre .2 .within (s .args .m) (c .before .loop .k) (s .pre .0) (c .loop-test .taken)
 
 mul-add : tie.Need-mul-add Inv-loop μ-loop
 mul-add c = search needs
@@ -61,7 +53,7 @@ add-add-2 : tie.Need-add-add-2 Inv-loop μ-loop
 add-add-2 c = omega (arith, within (c .before .before))
 
 add-requires : tie.Need-add-requires Inv-loop μ-loop
-add-requires c κs = omega (arith, within (c .before .before), size (c .before .before .before))
+add-requires c κs = omega (arith, within (c .before .before), c .before .before .before .loop .inv .1)
 
 add-k : tie.Need-add-k Inv-loop μ-loop
 add-k c = omega (arith, few (c .before .before .before .before .before))
@@ -73,17 +65,22 @@ loop-again : tie.Need-loop-again Inv-loop μ-loop
 loop-again c =
     let l = c .before .before .before .before .before .before .loop in
     let a = c .before .before .before .before .before .before .before .before .before .before .args in
-    (omega arith, added-more (a .strips .now) (a .offsets .now) (a .m) (a .c) (at (a .t .now)) (length (a .t .now)) (l .k) (l .t) (c .before .before .add .last .0) (l .inv .1) (c .before .before .add .ensures))
+    let n = c .before .before .add in (
+      omega arith,
+      n .kept .0 ∙ l .inv .1,
+      λ b e.
+          added-more (a .strips .now) (a .offsets .now) (a .m) (a .c) b (length (a .t .now)) (l .k) (l .t) (n .last .0) (l .inv .2 b e) (n .ensures),
+    )
 
 same-length : tie.Need-same-length Inv-loop μ-loop
-same-length c = size (c .before)
+same-length c = c .before .loop .inv .1
 
 returns : tie.Need-returns Inv-loop μ-loop
 returns c =
     let l = c .before .loop in
     let a = c .before .before .before .before .before .args in
     let e : l .k ≡ at (a .counts .now) (a .m) = omega arith in
-    l .inv .1 ∙ ap (λ n. tabulate (λ i. sum (at (a .t .now) i) (row-symbol (a .strips .now) (a .offsets .now) (a .m) (a .c + i)) n) (length (a .t .now))) e
+    (l .inv .1, λ b h. l .inv .2 b h ∙ ap (λ n. tabulate (added (a .strips .now) (a .offsets .now) (a .m) (a .c) b (length (a .t .now)) n) (length (a .t .now))) e)
 
 pub add-row-spec : {M : Type 1} → statement M
 add-row-spec =

@@ -36,7 +36,7 @@ add-row-requires : tie.Need-add-row-requires Inv-loop μ-loop
 add-row-requires c κs =
     let s = c .before .before .before .before .before .before .before .before .before .before .before in
     let d = held-doubled (c .before .before .before .before .before .loop .inv) (c .before .before .double .ensures) in
-    (omega arith, reach-less (omega (arith, d, s .pre .0)) (s .pre .1))
+    (omega arith, omega arith, reach-less (omega (arith, d, s .pre .0)) (s .pre .1))
 
 add-m : tie.Need-add-m Inv-loop μ-loop
 add-m c = search needs
@@ -45,7 +45,7 @@ loop-less : tie.Need-loop-less Inv-loop μ-loop
 loop-less c = search needs
 
 loop-again : tie.Need-loop-again Inv-loop μ-loop
-loop-again c = held-next (c .before .before .before .before .before .before .loop-test .taken) (c .before .before .before .before .before .before .before .loop .inv) (c .before .before .before .before .double .ensures) (c .before .add-row .ensures)
+loop-again c = held-next (c .before .before .before .before .before .before .loop-test .taken) (c .before .before .before .before .before .before .before .loop .inv) (c .before .before .before .before .double .ensures) (c .before .add-row .ensures .1)
 
 slice-aggregate-copy : tie.Need-slice-aggregate-copy Inv-loop μ-loop
 slice-aggregate-copy c = sym (held-size (c .before .before .loop .inv))
