@@ -1,11 +1,13 @@
--- How many numbers pass a test: one number more, none, a stretch more. Assumes nothing.
+-- How many numbers pass a test, and whether every does: one number more, none, a stretch more. Assumes nothing.
 --   count-zero, count-yes, count-no    one number more, that passes the test or not
 --   count-none             where none passes
 --   count-add, count-mono  the numbers below a, and b more
 --   count-and              a test joined to one that does not depend on the number
 --   count-some, count-one  one that passes, and the only one
+--   every-none, every-more, every-done    a test of each number, one number more, to the bound
+--   every-same             two tests that agree
 --   or-left, or-right      one of two tests holds
-use mathlib.Core.Path.{_≡_, refl, sym, ap, _∙_}
+use mathlib.Core.Path.{_≡_, refl, sym, ap, ap₂, _∙_}
 use mathlib.Core.Logic.{_≢_}
 use mathlib.Core.Bool.{Bool, true, false, cond, _&&_, _||_}
 use Prim.Native.Nat.{ℕ, zero, suc, _+_, _-_, _≤_, _<_}
@@ -14,7 +16,7 @@ use native.Mathlib.Decide.{ℕ-discrete, decLt}
 use native.Mathlib.Numerals.{add-one}
 use native.Mathlib.Omega.{arith}
 use lib.Dec.{T}
-use Rattle.algebra.specs.Sequence.{count}
+use Rattle.algebra.specs.Sequence.{count, every}
 use Rattle.algebra.proofs.Sequence.{yes-true, no-false, count-same}
 
 pub or-left : (a b : Bool) → T a → T (a || b)
@@ -86,3 +88,21 @@ count-one t n i k c h l e d = no-false (t k) (λ p. go p (decLt i k))
     go : T (t k) → Dec (i < k) → ⊥
     go p (yes b) = omega (arith, count-two t n i k b l e (yes-true (t k) p))
     go p (no b) = omega (arith, count-two t n k i (omega arith) h (yes-true (t k) p) e)
+
+-- every number below a bound
+module _ (t : ℕ → Bool) where
+  pub every-none : every t 0 ≡ true
+  unfolding every
+  every-none = refl
+
+  pub every-more : (i : ℕ) → every t i ≡ true → t i ≡ true → every t (i + 1) ≡ true
+  unfolding every
+  every-more i e h = rw (add-one, h) e
+
+  pub every-done : (n i : ℕ) → i ≤ n → n ≤ i → every t i ≡ true → true ≡ every t n
+  every-done n i h g e = let s : i ≡ n = omega arith in sym (rw s at e)
+
+pub every-same : (s t : ℕ → Bool) (n : ℕ) → ((i : ℕ) → i < n → s i ≡ t i) → every s n ≡ every t n
+unfolding every
+every-same s t zero h = refl
+every-same s t (suc n) h = ap₂ (λ a b. a && b) (h n (le-refl (suc n))) (every-same s t n (λ i b. h i (omega arith)))

@@ -6,16 +6,17 @@
 --   at-past, at-replicate, at-zeros      entries past the end, and of a list of one value
 --   all-below-at, all-below-intro, all-below-any, all-below-not
 --   lookup ms xs s                       the value of xs where ms has the key s; map-lookup
---   length-tabulate, at-tabulate, tabulate-is, tabulate-same, each-tabulate
+--   length-tabulate, at-tabulate, tabulate-is, tabulate-same, tabulate-suc, each-tabulate
 --   every-at, every-intro, count-most, count-split, count-same, count-all
 --   picked pt t n                        the points of the places below n that pass a test, and how many
 use mathlib.Core.Path.{_≡_, refl, sym, ap, ap₂, _∙_, subst}
 use mathlib.Core.Logic.{_≢_}
 use mathlib.Core.Bool.{Bool, true, false, cond, not, _&&_, _||_}
-use mathlib.Core.List.{List, [], _∷_, map}
+use mathlib.Core.List.{List, [], _∷_, _++_, map}
 use Prim.Native.Nat.{ℕ, zero, suc, _+_, _≤_, _<_, zero-le}
 use native.Mathlib.Nat.{le-refl, add-zero, add-suc, suc-add, zero-add, not-suc-le-zero, le-of-suc-le-suc}
 use native.Mathlib.Decide.{ℕ-discrete, decLt}
+use native.Mathlib.Numerals.{add-one}
 use native.Mathlib.Omega.{arith}
 use lib.ListN.{length, getD, drop, replicate}
 use lib.Seq.{ext-getD}
@@ -179,6 +180,15 @@ module _ {A : Type 0} (f : ℕ → A) where
   tabulate-is d n xs l h =
       ext-getD d xs (tabulate f n) (l ∙ sym (length-tabulate n))
       (λ i b. let b′ : i < n = omega arith in h i b′ ∙ sym (at-tabulate d n i b′))
+
+  from-suc : (l i : ℕ) → tabulate-from f (suc l) i ≡ tabulate-from f l i ++ (f (i + l) ∷ [])
+  unfolding tabulate-from
+  from-suc zero i = rw add-zero refl
+  from-suc (suc l) i = ap (λ xs. f i ∷ xs) (from-suc l (suc i) ∙ ap (λ k. tabulate-from f l (suc i) ++ (f k ∷ [])) (suc-add i l ∙ sym (add-suc i l)))
+
+  pub tabulate-suc : (n : ℕ) → tabulate f (n + 1) ≡ tabulate f n ++ (f n ∷ [])
+  unfolding tabulate
+  tabulate-suc n = rw add-one (from-suc n 0 ∙ ap (λ k. tabulate-from f n 0 ++ (f k ∷ [])) (zero-add n))
 
   each-from : (P : A → Type 0) (l i : ℕ) → Each P (tabulate-from f l i) → (k : ℕ) → k < l → P (f (i + k))
   unfolding tabulate-from

@@ -2,13 +2,12 @@
 --   fills-no, fills-yes        a call that fills a buffer refuses, or fills it
 --   answers-no, answers-yes    a call that answers a value
 --   fills-in, answers-in       what either says where it is not refused
---   fills-none                 an answer 0 is no refusal
-use mathlib.Core.Path.{_≡_, refl, sym, ap, _∙_}
+--   fills-is, fills-none       the answer is the refusal; an answer 0 is none
+use mathlib.Core.Path.{_≡_, sym, ap, _∙_}
 use mathlib.Core.Logic.{_≢_}
 use mathlib.Core.Bool.{cond}
 use mathlib.Core.List.{List}
 use Prim.Native.Nat.{ℕ, zero, suc}
-use native.Mathlib.Omega.{arith}
 use borrow.Author.Tests.{eq-eqb, ne-eqb}
 use Rattle.code.specs.Answer.{Answers, Fills}
 use Rattle.code.specs.declared.Answer.{Answer}
@@ -30,15 +29,18 @@ pub answers-yes : (n v : ℕ) (x : Answer) → n ≡ 0 → x .refusal ≡ 0 → 
 unfolding Answers
 answers-yes n v x e h p = rw e (h, p)
 
--- what such a call says where it is not refused, and that an answer 0 is no refusal
+-- what such a call says where it is not refused, and that its answer is the refusal
 pub fills-in : (n : ℕ) (bs : List ℕ) (x : ℕ) (a z : List ℕ) → n ≡ 0 → Fills n bs x a z → (x ≡ 0) × (z ≡ bs)
 unfolding Fills
 fills-in n bs x a z e f = rw e at f
 
-pub fills-none : (n : ℕ) (bs : List ℕ) (x : ℕ) (a z : List ℕ) → x ≡ 0 → Fills n bs x a z → n ≡ 0
+pub fills-is : (n : ℕ) (bs : List ℕ) (x : ℕ) (a z : List ℕ) → Fills n bs x a z → x ≡ n
 unfolding Fills
-fills-none zero bs x a z e f = refl
-fills-none (suc n) bs x a z e f = absurd (omega (arith, f .0))
+fills-is zero bs x a z f = f .0
+fills-is (suc n) bs x a z f = f .0
+
+pub fills-none : (n : ℕ) (bs : List ℕ) (x : ℕ) (a z : List ℕ) → x ≡ 0 → Fills n bs x a z → n ≡ 0
+fills-none n bs x a z e f = sym (fills-is n bs x a z f) ∙ e
 
 pub answers-in : (n v : ℕ) (x : Answer) → n ≡ 0 → Answers n v x → (x .refusal ≡ 0) × (x .value ≡ v)
 unfolding Answers

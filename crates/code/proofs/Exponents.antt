@@ -2,18 +2,19 @@
 --   exponent-is, exponent-injective, exponent-most, exponent-last
 --   ceiling-is          ⌈k/r⌉ is (k - 1) / r + 1
 --   room, k-below       k + ⌈k/r⌉ is at most n, so k is below n
+--   k-most, work-most   k is at most 240, and n × (k + 1) at most 61,455
 --   exponents-are       Exponents-are of specs/Promise.antt
 use mathlib.Core.Path.{_≡_, ap, _∙_}
 use Prim.Native.Nat.{ℕ, suc, _+_, _*_, _-_, _/_, _≤_, _<_}
-use native.Mathlib.Nat.{add-div-right, div-lt-iff-lt-mul}
+use native.Mathlib.Nat.{add-div-right, div-lt-iff-lt-mul, mul-le-mul, mul-le-mul-right}
 use native.Mathlib.Omega.{arith}
 use Rattle.algebra.proofs.Locality.{raised, raised-is, raised-monotone, raised-injective}
-use Rattle.code.specs.Code.{tolerance, size, groups, exponent}
+use Rattle.code.specs.Code.{tolerance, size, groups, exponent, code-refusal}
 use Rattle.code.specs.Codeword.{ceiling, most-shared}
 use Rattle.code.specs.Erasure.{guarantee}
 use Rattle.code.specs.Promise.{Exponents-are}
 use Rattle.code.specs.declared.Code.{Code}
-use Rattle.code.proofs.Accepted.{Good, good}
+use Rattle.code.proofs.Accepted.{Good, good, n-byte}
 use Rattle.code.proofs.Groups.{size-is, groups-size}
 
 pub exponent-is : (c : Code) (m : ℕ) → exponent c m ≡ m + tolerance c * (m / c .r)
@@ -59,6 +60,17 @@ module _ (c : Code) (G : Good c) where
   pub guarantee-is : guarantee c + (c .k + ceiling (c .k) (c .r)) ≡ c .n + 1
   unfolding guarantee tolerance
   guarantee-is = omega (arith, room, ceiling-is)
+
+pub k-most : (c : Code) → code-refusal c ≡ 0 → c .k ≤ 240
+k-most c e =
+    let g = good c e in
+    let m = mul-le-mul-right (groups c) (g .r-most) in
+    omega (arith, g .k-most, n-byte c g, groups-size c g, ap (λ n. groups c * n) (size-is c))
+
+pub work-most : (c : Code) → code-refusal c ≡ 0 → c .n * (c .k + 1) ≤ 61455
+work-most c e =
+    let h : c .k + 1 ≤ 241 = omega (arith, k-most c e) in
+    mul-le-mul (n-byte c (good c e)) h
 
 pub exponents-are : Exponents-are
 unfolding Exponents-are

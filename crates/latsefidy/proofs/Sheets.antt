@@ -5,13 +5,13 @@ use mathlib.Core.Path.{_≡_, refl, sym, ap, subst, _∙_}
 use mathlib.Core.Logic.{_≢_}
 use mathlib.Core.Bool.{Bool, cond}
 use mathlib.Core.List.{List}
-use Prim.Native.Nat.{ℕ, zero, suc}
+use Prim.Native.Nat.{ℕ}
 use native.Mathlib.Omega.{arith}
 use lib.ListN.{length}
 use borrow.Author.Tests.{eq-eqb, ne-eqb}
 use Rattle.code.specs.Answer.{Fills}
 use Rattle.code.proofs.Questions.{ask-no, ask-yes}
-use Rattle.code.proofs.Answers.{fills-no, fills-yes, fills-none}
+use Rattle.code.proofs.Answers.{fills-no, fills-yes, fills-is, fills-none}
 use Rattle.sheet.specs.Sheet.{code-in}
 use Rattle.sheet.specs.Calls.{read-refusal, no-code, Read-says}
 use Rattle.sheet.specs.declared.Sheet.{Sheet}
@@ -29,11 +29,6 @@ read-five s a d f n =
 read-room : (s : List ℕ) (a b l : ℕ) → l ≡ 4 → reader-refusal s a b l ≡ read-refusal s a b
 unfolding reader-refusal
 read-room s a b l e = sym (ask-yes 5 (eq-eqb l 4 e) refl)
-
-fills-is : (n : ℕ) (bs : List ℕ) (x : ℕ) (a z : List ℕ) → Fills n bs x a z → x ≡ n
-unfolding Fills
-fills-is zero bs x a z F = F .0
-fills-is (suc n) bs x a z F = F .0
 
 module _ (s a b d e f : List ℕ) (y : Sheet) (l : length f ≡ 4) (R : Read-says s a b d e y) where
   asked : ℕ

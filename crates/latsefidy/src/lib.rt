@@ -11,7 +11,7 @@ ghost use Rattle.decode.specs.Verdict.{Decode-says};
 ghost use Rattle.decode.specs.Losses.{Grade-says};
 ghost use Rattle.decode.specs.Recording.{outcome-number};
 ghost use Rattle.sheet.specs.Calls.{Write-says};
-ghost use Rattle.sheet.specs.Report.{Report-says};
+ghost use Rattle.reporting.specs.Report.{Report-says};
 ghost use Rattle.latsefidy.specs.Pack.{unpacked, first-slot};
 ghost use Rattle.latsefidy.specs.Fill.{Weights-fill};
 ghost use Rattle.latsefidy.specs.Record.{four, numbers-of, Record-fills};
@@ -301,7 +301,7 @@ pub extern "C" fn latsefidy_report(input: &[u8], text: &mut [u8]) -> u64
     ensures { λ x. ⌜ Report-says (take 1032 (now (input .entry))) (now (text .entry)) (now (text .exit)) (unpacked x) ⌝ }
 {
     if input.len() <= 1032 {
-        return packed(sheet::report(input, text));
+        return packed(reporting::report(input, text));
     }
-    packed(sheet::report(&input[..1032], text))
+    packed(reporting::report(&input[..1032], text))
 }

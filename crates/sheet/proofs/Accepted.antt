@@ -10,13 +10,13 @@ use mathlib.Core.Logic.{_≢_}
 use mathlib.Core.Bool.{Bool, true, false, cond, _&&_, _||_}
 use mathlib.Core.List.{List, _++_}
 use Prim.Native.Nat.{ℕ, zero, suc, _+_, _*_, _/_, _%_, _≤_, _<_}
-use native.Mathlib.Nat.{le-refl}
 use native.Mathlib.Omega.{arith}
 use lib.Dec.{T, leb, eqb, ltb, eqb→eq}
 use lib.ListN.{length, drop}
 use borrow.Author.Tests.{lt-ltb, le-leb, lt-leb, eq-eqb, ne-eqb}
 use Rattle.algebra.specs.Sequence.{at, every, all-below}
 use Rattle.algebra.proofs.Sequence.{yes-true, and-left, and-right, at-tabulate}
+use Rattle.algebra.proofs.Counting.{every-same}
 use Rattle.field.specs.Field.{q}
 use Rattle.code.specs.Question.{ask, or-ask}
 use Rattle.code.specs.Code.{code-refusal}
@@ -64,11 +64,6 @@ good-sheet s e =
       kept = t₆ .0;
       last = eqb→eq (word-at s (c .n + 1)) (end-word (c .n)) (t₇ .0);
     }
-
-pub every-same : (s t : ℕ → Bool) (n : ℕ) → ((i : ℕ) → i < n → s i ≡ t i) → every s n ≡ every t n
-unfolding every
-every-same s t zero h = refl
-every-same s t (suc n) h = ap₂ (λ a b. a && b) (h n (le-refl (suc n))) (every-same s t n (λ i b. h i (omega arith)))
 
 pub q-least : (f : ℕ) → 0 < q f
 unfolding q

@@ -10,11 +10,10 @@ use native.Mathlib.Omega.{arith}
 use lib.ListN.{length, take, drop, set, length-append, take-append-drop, drop-of-length-le}
 use lib.Seq.{sets-eq, take-at, drop-at, drop-drop, length-take-le}
 use Rattle.algebra.specs.Sequence.{tabulate-from, tabulate}
-use Rattle.algebra.proofs.Sequence.{length-tabulate}
+use Rattle.algebra.proofs.Sequence.{length-tabulate, tabulate-suc}
 use Rattle.code.specs.declared.Code.{Code}
 use Rattle.sheet.specs.Sheet.{word-bytes, bytes, code-word, end-word, slot-word, sheet-words, sheet-of}
 use Rattle.sheet.specs.Calls.{put-word, put-slots}
-use Rattle.sheet.proofs.Loops.{tabulate-suc}
 
 pub bytes-append : (xs ys : List ℕ) → bytes (xs ++ ys) ≡ bytes xs ++ bytes ys
 unfolding bytes

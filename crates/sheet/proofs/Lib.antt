@@ -1,11 +1,7 @@
-pub mod Loops
 pub mod Words
 pub mod Slots
 pub mod Bytes
 pub mod Rows
 pub mod Accepted
+pub mod Reading
 pub mod Promises
-pub mod Puts
-pub mod Reports
-pub mod Bounds
-pub mod Reporting

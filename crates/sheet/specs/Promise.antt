@@ -3,7 +3,6 @@
 --   Reads-back     reading a written sheet gives back the code, the marks and the kept symbols, with 0 at the lost slots
 --   Writes-back    writing what was read of an accepted sheet gives its bytes
 --   One-sheet      an accepted sheet is the only one with its code, its losses and its kept symbols
---   One-report     the report of a sheet is determined
 use mathlib.Core.Path.{_≡_}
 use mathlib.Core.Bool.{true, false, cond}
 use mathlib.Core.List.{List}
@@ -14,7 +13,6 @@ use Rattle.code.specs.Erasure.{lost}
 use Rattle.code.specs.declared.Code.{Code}
 use Rattle.sheet.specs.Sheet.{sheet-of, code-in, symbols-in, marks-in}
 use Rattle.sheet.specs.Calls.{read-refusal, write-refusal}
-use Rattle.sheet.specs.Report.{Report}
 
 -- a sheet of n slots has n + 2 words
 unfoldable pub Sheet-length : Type 0
@@ -45,7 +43,3 @@ unfoldable pub One-sheet : Type 0
 One-sheet =
     (s t : List ℕ) → Accepted-sheet s → Accepted-sheet t → code-in s ≡ code-in t → marks-in s ≡ marks-in t
     → ((p : ℕ) → p < code-in s .n → lost (marks-in s) p ≡ false → at (symbols-in s) p ≡ at (symbols-in t) p) → s ≡ t
-
--- a sheet has one report only
-unfoldable pub One-report : Type 0
-One-report = (s a b : List ℕ) → Report s a → Report s b → a ≡ b

@@ -9,14 +9,7 @@ ghost use Rattle.algebra.specs.Sequence.{every, tabulate};
 ghost use Rattle.code.specs.Code.{code-refusal};
 ghost use Rattle.sheet.specs.Sheet.{word, word-at, middle-word, slot-fits, symbol-of, mark-of, code-of, code-in, code-word, kept-word, lost-word, sheet-of};
 ghost use Rattle.sheet.specs.Calls.{put-word, put-slots, body-refusal, sheet-refusal, write-refusal, no-code, Read-says, Write-says};
-ghost use Rattle.decode.specs.Verdict.{decode-refusal};
-ghost use Rattle.decode.specs.Recording.{outcome-number};
-ghost use Rattle.sheet.specs.Report.{Stripe-says, Text-says, Report-says};
-use code::Answer;
 use code::Code;
-use decode::Outcome;
-
-mod text;
 
 // The code of a sheet, or the refusal of it.
 pub struct Sheet {
@@ -301,87 +294,4 @@ pub fn write_sheet(code: Code, word: &[u8], marks: &[u8], sheet: &mut [u8]) -> u
     }
     write_words(code, word, marks, sheet);
     0
-}
-
-// The paper's number of an outcome.
-fn outcome_number(outcome: Outcome) -> u32
-    ensures { λ x. ⌜ x ≡ outcome-number outcome ⌝ }
-{
-    match outcome {
-        Outcome::Decided => 0,
-        Outcome::Foreign => 9,
-        Outcome::Undecided => 10,
-    }
-}
-
-// Puts the report of an accepted stripe: answers the place behind it.
-fn put_stripe(
-    code: Code,
-    word: &[u8],
-    marks: &[u8],
-    message: &mut [u8],
-    work: &mut [u8],
-    text: &mut [u8],
-) -> usize
-    requires { ⌜ (decode-refusal code (now word) (now marks) (length (now message)) (length (now work)) ≡ 0) × (1032 ≤ length (now text)) ⌝ }
-    ensures { λ x. ⌜ Stripe-says code (now (word .entry)) (now (marks .entry)) (now (text .entry)) (now (text .exit)) x ⌝ }
-{
-    let drawn = decode::record(code, word, marks, message, work);
-    let stripe = drawn.record;
-    let outcome = stripe.outcome;
-    let number = outcome_number(outcome);
-    text::put_lines(
-        text,
-        code,
-        stripe.lost,
-        stripe.guarantee,
-        stripe.grade,
-        stripe.first,
-        number,
-        message,
-    )
-}
-
-// Puts the report of a sheet: answers the place behind it.
-fn put_report(
-    input: &[u8],
-    word: &mut [u8],
-    marks: &mut [u8],
-    message: &mut [u8],
-    work: &mut [u8],
-    text: &mut [u8],
-) -> usize
-    requires { ⌜ (255 ≤ length (now word)) × (255 ≤ length (now marks)) × (240 ≤ length (now message)) × (61455 ≤ length (now work)) × (1032 ≤ length (now text)) ⌝ }
-    ensures { λ x. ⌜ Text-says (now (input .entry)) (now (text .entry)) (now (text .exit)) x ⌝ }
-{
-    let sheet = read_sheet(input, word, marks);
-    let refusal = sheet.refusal;
-    if refusal != 0 {
-        return text::put_refused(text, 0, refusal);
-    }
-    let code = sheet.code;
-    let n = code.n as usize;
-    let k = code.k as usize;
-    put_stripe(code, &word[..n], &marks[..n], &mut message[..k], work, text)
-}
-
-// Writes the report of a sheet in front of the text and answers its length; refuses a text of fewer than 1,032 bytes.
-pub fn report(input: &[u8], text: &mut [u8]) -> Answer
-    ensures { λ x. ⌜ Report-says (now (input .entry)) (now (text .entry)) (now (text .exit)) x ⌝ }
-{
-    if text.len() < 1032 {
-        return Answer {
-            refusal: 5,
-            value: 0,
-        };
-    }
-    let mut word = [0u8; 255];
-    let mut marks = [0u8; 255];
-    let mut message = [0u8; 240];
-    let mut work = [0u8; 61455];
-    let end = put_report(input, &mut word, &mut marks, &mut message, &mut work, text);
-    Answer {
-        refusal: 0,
-        value: end as u32,
-    }
 }

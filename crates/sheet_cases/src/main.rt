@@ -4,7 +4,7 @@ ghost use Prim.Native.Nat.{_<_};
 // The report of one sheet.
 fn put_report(sheet: &[u8]) {
     let mut text = [0u8; 1032];
-    let answer = sheet::report(sheet, &mut text);
+    let answer = reporting::report(sheet, &mut text);
     show::put_front(&text, answer.value as usize);
 }
 

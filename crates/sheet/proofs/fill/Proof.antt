@@ -1,22 +1,17 @@
 -- `fill` meets its contract. The loop has written the first p of both buffers. Assumes nothing.
-use mathlib.Core.Path.{_≡_, refl, ap, _∙_}
-use mathlib.Core.List.{_++_}
+use mathlib.Core.Path.{ap, _∙_}
 use Prim.Native.Nat.{_-_, _≤_}
 use native.Mathlib.Omega.{arith}
-use lib.ListN.{length, drop, length-set}
-use Rattle.algebra.specs.Sequence.{tabulate}
+use Rattle.algebra.proofs.Filling.{Filled, filled-none, filled-more, filled-front}
 use Rattle.sheet.specs.Sheet.{middle-word, symbol-of, mark-of}
-use Rattle.sheet.proofs.Loops.{fill-none, fill-more, fill-done}
 use Rattle.sheet.proofs.fill.Statement.{statement}
 use Rattle.sheet.proofs.fill.Tie as tie
 
 abbrev Inv-loop : tie.InvT-loop
 Inv-loop sheet n word₀ marks₀ p₀ word marks p =
     (p ≤ n)
-    × (length word ≡ length word₀)
-    × (length marks ≡ length marks₀)
-    × (word ≡ tabulate (λ p. symbol-of (middle-word sheet p)) p ++ drop p word₀)
-    × (marks ≡ tabulate (λ p. mark-of (middle-word sheet p)) p ++ drop p marks₀)
+    × Filled (λ p. symbol-of (middle-word sheet p)) p word₀ word
+    × Filled (λ p. mark-of (middle-word sheet p)) p marks₀ marks
 
 abbrev μ-loop : tie.MeasureT-loop
 μ-loop sheet n word₀ marks₀ p₀ word marks p = n - p
@@ -25,10 +20,8 @@ loop-holds : tie.Need-loop-holds Inv-loop μ-loop
 loop-holds c =
     let a = c .before .before .before .args in (
       omega arith,
-      refl,
-      refl,
-      fill-none (λ p. symbol-of (middle-word (a .sheet .now) p)) (a .word .now),
-      fill-none (λ p. mark-of (middle-word (a .sheet .now) p)) (a .marks .now),
+      filled-none (λ p. symbol-of (middle-word (a .sheet .now) p)) (a .word .now),
+      filled-none (λ p. mark-of (middle-word (a .sheet .now) p)) (a .marks .now),
     )
 
 add-word-at : tie.Need-add-word-at Inv-loop μ-loop
@@ -62,26 +55,24 @@ loop-again c =
     let a = c .before .before .before .before .before .before .before .before .args in
     let e = c .before .before .word-at .ensures in (
       omega arith,
-      length-set (l .word) (l .p) (c .before .symbol-of .result) ∙ l .inv .1,
-      length-set (l .marks) (l .p) (c .mark-of .result) ∙ l .inv .2,
-      fill-more (λ p. symbol-of (middle-word (a .sheet .now) p)) (a .word .now) (l .word) (l .p) (c .before .symbol-of .result) 0 (omega arith) (l .inv .3)
-          (c .before .symbol-of .ensures ∙ ap symbol-of e),
-      fill-more (λ p. mark-of (middle-word (a .sheet .now) p)) (a .marks .now) (l .marks) (l .p) (c .mark-of .result) 0 (omega arith) (l .inv .4)
-          (c .mark-of .ensures ∙ ap mark-of e),
+      filled-more (λ p. symbol-of (middle-word (a .sheet .now) p)) (l .p) (c .before .symbol-of .result) (a .word .now) (l .word) (omega (arith, l .inv .1 .size))
+          (c .before .symbol-of .ensures ∙ ap symbol-of e) (l .inv .1),
+      filled-more (λ p. mark-of (middle-word (a .sheet .now) p)) (l .p) (c .mark-of .result) (a .marks .now) (l .marks) (omega (arith, l .inv .2 .size))
+          (c .mark-of .ensures ∙ ap mark-of e) (l .inv .2),
     )
 
 same-length : tie.Need-same-length Inv-loop μ-loop
-same-length c = c .before .loop .inv .1
+same-length c = c .before .loop .inv .1 .size
 
 same-length-2 : tie.Need-same-length-2 Inv-loop μ-loop
-same-length-2 c = c .before .loop .inv .2
+same-length-2 c = c .before .loop .inv .2 .size
 
 returns : tie.Need-returns Inv-loop μ-loop
 returns c =
     let l = c .before .loop in
     let a = c .before .before .before .before .before .args in (
-      fill-done (λ p. symbol-of (middle-word (a .sheet .now) p)) (a .word .now) (l .word) (a .n) (l .p) (omega arith) (omega arith) (l .inv .3),
-      fill-done (λ p. mark-of (middle-word (a .sheet .now) p)) (a .marks .now) (l .marks) (a .n) (l .p) (omega arith) (omega arith) (l .inv .4),
+      filled-front (λ p. symbol-of (middle-word (a .sheet .now) p)) (l .p) (a .n) (a .word .now) (l .word) (omega arith) (omega arith) (l .inv .1),
+      filled-front (λ p. mark-of (middle-word (a .sheet .now) p)) (l .p) (a .n) (a .marks .now) (l .marks) (omega arith) (omega arith) (l .inv .2),
     )
 
 pub fill-spec : {M : Type 1} → statement M

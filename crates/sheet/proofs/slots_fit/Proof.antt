@@ -7,7 +7,7 @@ use borrow.Author.Tests.{not-true, not-false}
 use Rattle.algebra.specs.Sequence.{every}
 use Rattle.sheet.specs.Sheet.{middle-word, slot-fits}
 use Rattle.algebra.proofs.Sequence.{every-not}
-use Rattle.sheet.proofs.Loops.{every-none, every-more, every-done}
+use Rattle.algebra.proofs.Counting.{every-none, every-more, every-done}
 use Rattle.sheet.proofs.slots_fit.Statement.{statement}
 use Rattle.sheet.proofs.slots_fit.Tie as tie
 

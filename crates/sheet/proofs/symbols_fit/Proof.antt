@@ -8,7 +8,7 @@ use borrow.Author.Tests.{lt-ltb, le-ltb}
 use Rattle.algebra.specs.Sequence.{every}
 use Rattle.sheet.specs.Sheet.{middle-word, symbol-of}
 use Rattle.algebra.proofs.Sequence.{every-not}
-use Rattle.sheet.proofs.Loops.{every-none, every-more, every-done}
+use Rattle.algebra.proofs.Counting.{every-none, every-more, every-done}
 use Rattle.sheet.proofs.symbols_fit.Statement.{statement}
 use Rattle.sheet.proofs.symbols_fit.Tie as tie
 

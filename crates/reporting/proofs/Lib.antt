@@ -1,0 +1,4 @@
+pub mod Puts
+pub mod Reports
+pub mod Bounds
+pub mod Reporting

@@ -1,0 +1,123 @@
+-- How the report follows from what was read, decoded and put. Assumes nothing.
+--   drawn                          an accepted stripe has a filled record
+--   small-record, record-lines     the numbers of a record, and its lines
+--   decodes                        an accepted sheet's stripe passes decode's questions
+--   few-slots, few-symbols, read-decodes, read-says    what follows where the reader did not refuse
+--   says-refused, says-stripe, says-report    the report, from its parts
+use mathlib.Core.Path.{_≡_, sym, ap, ap₂, _∙_, subst}
+use mathlib.Core.Logic.{_≢_}
+use mathlib.Core.List.{List, _++_}
+use Prim.Native.Nat.{ℕ, _+_, _≤_, _<_}
+use native.Mathlib.Nat.{zero-add}
+use native.Mathlib.Omega.{arith}
+use lib.ListN.{length, take, drop}
+use Rattle.algebra.proofs.Sequence.{yes-true}
+use Rattle.code.specs.Code.{code-refusal}
+use Rattle.code.specs.Erasure.{guarantee, grade}
+use Rattle.code.specs.declared.Code.{Code}
+use Rattle.code.specs.declared.Answer.{Answer}
+use Rattle.code.proofs.Accepted.{good, n-byte}
+use Rattle.code.proofs.Exponents.{k-most, work-most}
+use Rattle.decode.specs.Verdict.{decode-refusal}
+use Rattle.decode.specs.Recording.{outcome-number, Numbers, Filled, Record-as, Record-says}
+use Rattle.decode.specs.declared.Outcome.{Outcome}
+use Rattle.decode.specs.declared.Outcome.the-variants.{Decided, Foreign, Undecided}
+use Rattle.decode.specs.declared.StripeRecord.{StripeRecord}
+use Rattle.decode.specs.declared.Recorded.{Recorded}
+use Rattle.decode.proofs.Refusals.{none}
+use Rattle.sheet.specs.Sheet.{code-in, symbols-in, marks-in}
+use Rattle.sheet.specs.Calls.{sheet-refusal, Read-says}
+use Rattle.sheet.specs.declared.Sheet.{Sheet}
+use Rattle.sheet.proofs.Accepted.{Good-sheet, good-sheet}
+use Rattle.sheet.proofs.Reading.{told-refusal, told-code, told-word, told-marks}
+use Rattle.sheet.proofs.Promises.{stripe-again}
+use Rattle.reporting.specs.Text.{refused-line, written-at, Puts}
+use Rattle.reporting.specs.Report.{stripe-lines, stripe-report, Small, refused, stripe, Stripe-says, Text-says, Report-says, written}
+use Rattle.reporting.proofs.Puts.{puts-as}
+use Rattle.reporting.proofs.Bounds.{small-numbers}
+
+pub drawn : (c : Code) (ws ms : List ℕ) (x : Recorded) (a z w v : List ℕ) → decode-refusal c ws ms (length a) (length w) ≡ 0
+    → Record-says c ws ms x a z w v → Filled c ws ms x a z w v
+unfolding Record-says Record-as
+drawn c ws ms x a z w v e r = subst (λ n. Record-as n c ws ms x a z w v) e r
+
+pub outcome-most : (o : Outcome) → outcome-number o < 1000
+unfolding outcome-number
+outcome-most Decided = omega arith
+outcome-most Foreign = omega arith
+outcome-most Undecided = omega arith
+
+module _ (c : Code) (ms : List ℕ) (r : StripeRecord) (n : Numbers c ms r) where
+  pub small-record : (v : ℕ) → code-refusal c ≡ 0 → v < 1000 → Small c (r .lost) (r .guarantee) (r .grade) (r .first) v
+  small-record v e h =
+      let s = small-numbers c ms v e h in
+      record {
+        field-small = s .field-small;
+        r-small = s .r-small;
+        n-small = s .n-small;
+        k-small = s .k-small;
+        lost-small = omega (arith, s .lost-small, n .lost);
+        sure-small = omega (arith, s .sure-small, n .guarantee-is);
+        grade-small = omega (arith, s .grade-small, n .grade-is);
+        first-small = omega (arith, s .first-small, n .first);
+        outcome-small = h;
+      }
+
+  pub record-lines : (v w : ℕ) (xs : List ℕ) → v ≡ w → stripe-lines c (r .lost) (r .guarantee) (r .grade) (r .first) v xs ≡ stripe-report c ms w xs
+  unfolding stripe-report
+  record-lines v w xs e = cc (n .lost, n .guarantee-is, n .grade-is, n .first)
+
+pub decodes : (s : List ℕ) (a b : ℕ) → Good-sheet s → a ≡ code-in s .k → 61455 ≤ b → decode-refusal (code-in s) (symbols-in s) (marks-in s) a b ≡ 0
+decodes s a b g e h =
+    let t = stripe-again s g in
+    let w = work-most (code-in s) (t .code) in
+    sym (none (code-in s) (symbols-in s) (marks-in s) a b (t .code) (t .word) (t .marks) e (omega arith) (yes-true _ (t .marked)) (yes-true _ (t .kept)))
+
+module _ (s t z : List ℕ) (x : ℕ) where
+  pub says-refused : (m : ℕ) → m ≡ sheet-refusal s → m ≢ 0 → Puts (refused-line m) t 0 z x → x ≤ 1032 → Text-says s t z x
+  says-refused m e h p l =
+      record { bytes = refused-line (sheet-refusal s); report = refused (λ i. h (e ∙ i)); puts = puts-as (ap refused-line e) p; most = l }
+
+  pub says-stripe : (c : Code) (ws ms : List ℕ) → sheet-refusal s ≡ 0 → c ≡ code-in s → ws ≡ symbols-in s → ms ≡ marks-in s
+      → Stripe-says c ws ms t z x → Text-says s t z x
+  says-stripe c ws ms i e f g p =
+      let q = subst (λ c. Stripe-says c (symbols-in s) (marks-in s) t z x) e (subst (λ ws. Stripe-says c ws (marks-in s) t z x) f (subst (λ ms. Stripe-says c ws ms t z x) g p)) in
+      record { bytes = stripe-report (code-in s) (marks-in s) (q .outcome) (q .message); report = stripe i (q .verdict); puts = q .puts; most = q .most }
+
+  pub says-report : (a : Answer) → 1032 ≤ length t → a .refusal ≡ 0 → a .value ≡ x → Text-says s t z x → Report-says s t z a
+  unfolding written-at
+  says-report a h r v p =
+      let n : 0 + length (p .bytes) ≡ length (p .bytes) = zero-add (length (p .bytes)) in
+      written h (p .report) r (v ∙ p .puts .end ∙ n) (p .puts .text ∙ ap (λ m. p .bytes ++ drop m t) n)
+
+-- what follows where the reader did not refuse
+module _ (s a b d e : List ℕ) (x : Sheet) (h : 255 ≤ length a) (g : 255 ≤ length d) (r : Read-says s a b d e x) (i : x .refusal ≡ 0) where
+  passed : sheet-refusal s ≡ 0
+  passed = sym (told-refusal s a b d e x h g r) ∙ i
+
+  code-is : x .code ≡ code-in s
+  code-is = told-code s a b d e x h g r passed
+
+  accepted : code-refusal (x .code) ≡ 0
+  accepted = ap code-refusal code-is ∙ good-sheet s passed .code
+
+  pub few-slots : x .code .n ≤ 255
+  few-slots = n-byte (x .code) (good (x .code) accepted)
+
+  pub few-symbols : x .code .k ≤ 240
+  few-symbols = k-most (x .code) accepted
+
+  word-is : take (x .code .n) b ≡ symbols-in s
+  word-is = ap (λ c. take (c .n) b) code-is ∙ told-word s a b d e x h g r passed
+
+  marks-are : take (x .code .n) e ≡ marks-in s
+  marks-are = ap (λ c. take (c .n) e) code-is ∙ told-marks s a b d e x h g r passed
+
+  pub read-decodes : (l w : ℕ) → l ≡ x .code .k → 61455 ≤ w → decode-refusal (x .code) (take (x .code .n) b) (take (x .code .n) e) l w ≡ 0
+  read-decodes l w k m =
+      subst (λ c. decode-refusal c (take (x .code .n) b) (take (x .code .n) e) l w ≡ 0) (sym code-is)
+      (ap₂ (λ ws ms. decode-refusal (code-in s) ws ms l w) word-is marks-are
+      ∙ decodes s l w (good-sheet s passed) (k ∙ ap (λ c. c .k) code-is) m)
+
+  pub read-says : (t z : List ℕ) (y : ℕ) → Stripe-says (x .code) (take (x .code .n) b) (take (x .code .n) e) t z y → Text-says s t z y
+  read-says t z y p = says-stripe s t z y (x .code) (take (x .code .n) b) (take (x .code .n) e) passed code-is word-is marks-are p

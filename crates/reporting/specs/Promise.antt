@@ -1,0 +1,10 @@
+-- What is promised of reports. The statement is a type; proofs/Reports.antt has its proof. Assumes nothing.
+--   One-report     the report of a sheet is determined
+use mathlib.Core.Path.{_≡_}
+use mathlib.Core.List.{List}
+use Prim.Native.Nat.{ℕ}
+use Rattle.reporting.specs.Report.{Report}
+
+-- a sheet has one report only
+unfoldable pub One-report : Type 0
+One-report = (s a b : List ℕ) → Report s a → Report s b → a ≡ b
