@@ -72,7 +72,7 @@ fn passes(code: Code, word: &mut [u8], marks: &mut [u8]) {
 // Decodes the kept symbols of a word, and grades its marks.
 fn decodes(code: Code, word: &[u8], marks: &[u8], message: &mut [u8], work: &mut [u8]) {
     let refusal = decode::decode(code, word, marks, message, work);
-    let answer = decode::grade(code, marks);
+    let answer = losses::grade(code, marks);
     head(b"decode ", code);
     show::put(refusal);
     show::put(answer.refusal);

@@ -1,12 +1,13 @@
 -- Marks, losses, the guarantee and the grade. Assumes nothing: these are definitions.
 -- The paper's words: a mark says of a slot whether its symbol is an erasure; a lost slot is an erased one.
---   lost ms p            == slot p is lost: its mark is 1
---   lost-number c ms     == how many slots are lost
---   kept-below c ws ms   == every kept symbol is below q
---   group-losses c j ms  == how many of group j
---   first-broken c ms    == the first group with more losses than it stands, 255 if none
---   guarantee c          == n - k - ⌈k/r⌉ + 1: so many losses never lose a message
---   grade c ms           == 0 nothing lost; 1 every group mends itself; 2 within the guarantee; 3 beyond
+--   lost ms p               == slot p is lost: its mark is 1
+--   lost-number c ms        == how many slots are lost
+--   symbols-below m ws ms n == every kept one of the first n symbols is below m
+--   kept-below c ws ms      == every kept symbol is below q
+--   group-losses c j ms     == how many of group j
+--   first-broken c ms       == the first group with more losses than it stands, 255 if none
+--   guarantee c             == n - k - ⌈k/r⌉ + 1: so many losses never lose a message
+--   grade c ms              == 0 nothing lost; 1 every group mends itself; 2 within the guarantee; 3 beyond
 use mathlib.Core.Bool.{Bool, cond, _||_}
 use mathlib.Core.List.{List}
 use Prim.Native.Nat.{ℕ, zero, suc, _+_, _*_, _-_}
@@ -23,8 +24,11 @@ lost ms p = eqb (at ms p) 1
 unfoldable pub lost-number : Code → (marks : List ℕ) → ℕ
 lost-number c ms = count (lost ms) (c .n)
 
+abbrev pub symbols-below : (most : ℕ) → (word marks : List ℕ) → (number : ℕ) → Bool
+symbols-below m ws ms n = every (λ p. lost ms p || ltb (at ws p) m) n
+
 unfoldable pub kept-below : Code → (word marks : List ℕ) → Bool
-kept-below c ws ms = every (λ p. lost ms p || ltb (at ws p) (q (c .field))) (c .n)
+kept-below c ws ms = symbols-below (q (c .field)) ws ms (c .n)
 
 unfoldable pub group-losses : Code → (group : ℕ) → (marks : List ℕ) → ℕ
 group-losses c j ms = count (λ i. lost ms (slot-at c j i)) (size c)

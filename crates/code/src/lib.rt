@@ -1,14 +1,12 @@
 // The code's four numbers, questions 1 to 4, points, tests of symbols, and the answer of a call.
 ghost use mathlib.Core.Path.{_≡_};
-ghost use mathlib.Core.Bool.{_||_};
 ghost use Prim.Native.Nat.{_-_, _≤_, _<_};
-ghost use lib.Dec.{ltb, eqb};
 ghost use lib.ListN.{length};
 ghost use Rattle.algebra.specs.Sequence.{all-below};
 ghost use Rattle.field.specs.Field.{q};
 ghost use Rattle.code.specs.Question.{ask};
 ghost use Rattle.code.specs.Code.{n-fits, k-fits, code-refusal, point};
-ghost use Rattle.code.specs.Erasure.{kept-below};
+ghost use Rattle.code.specs.Erasure.{symbols-below, kept-below};
 
 // The field, the locality r, the length n and the dimension k.
 pub struct Code {
@@ -98,14 +96,21 @@ pub fn all_below(entries: &[u8], most: u32) -> bool
     true
 }
 
-// Whether a symbol is lost, or below most.
-fn symbol_fits(mark: u8, symbol: u8, most: u32) -> bool
-    ensures { λ x. ⌜ x ≡ (eqb mark 1 || ltb symbol most) ⌝ }
+// Whether every kept symbol is below most.
+pub fn symbols_below(word: &[u8], marks: &[u8], most: u32) -> bool
+    requires { ⌜ length (now word) ≡ length (now marks) ⌝ }
+    ensures { λ x. ⌜ x ≡ symbols-below most (now (word .entry)) (now (marks .entry)) (length (now (marks .entry))) ⌝ }
 {
-    if mark == 1 {
-        return true;
+    let mut i: usize = 0;
+    while i < marks.len() {
+        if marks[i] != 1 {
+            if word[i] as u32 >= most {
+                return false;
+            }
+        }
+        i += 1;
     }
-    (symbol as u32) < most
+    true
 }
 
 // Whether every kept symbol is below q.
@@ -113,14 +118,5 @@ pub fn kept_below(code: Code, word: &[u8], marks: &[u8]) -> bool
     requires { ⌜ (length (now word) ≡ code .n) × (length (now marks) ≡ code .n) ⌝ }
     ensures { λ x. ⌜ x ≡ kept-below code (now (word .entry)) (now (marks .entry)) ⌝ }
 {
-    let n = code.n as usize;
-    let most = field::order(code.field);
-    let mut p: usize = 0;
-    while p < n {
-        if !symbol_fits(marks[p], word[p], most) {
-            return false;
-        }
-        p += 1;
-    }
-    true
+    symbols_below(word, marks, field::order(code.field))
 }

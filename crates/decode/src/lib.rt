@@ -1,18 +1,16 @@
-// Decoding, grading and the stripe's record.
+// Decoding, and the stripe's record.
 ghost use mathlib.Core.Path.{_≡_};
 ghost use mathlib.Core.Bool.{true};
 ghost use Prim.Native.Nat.{_+_, _*_, _<_, _≤_};
 ghost use lib.ListN.{length, replicate};
 ghost use Rattle.field.specs.Table.{Powers, Logs};
 ghost use Rattle.code.specs.Code.{code-refusal};
-ghost use Rattle.code.specs.Erasure.{kept-below, lost-number, guarantee, grade, first-broken};
+ghost use Rattle.code.specs.Erasure.{kept-below, lost-number, guarantee};
 ghost use Rattle.linear.specs.System.{Echelon};
 ghost use Rattle.decode.specs.Verdict.{decode-refusal, Verdict, Decode-says};
-ghost use Rattle.decode.specs.Losses.{marks-refusal, Grade-says, Losses-says, First-says};
 ghost use Rattle.decode.specs.Gathering.{Taken, Gathered};
 ghost use Rattle.decode.specs.Interpolating.{Pointed, gaps-zero, message-of};
 ghost use Rattle.decode.specs.Recording.{Is-verdict, outcome-number, blank, Record-says};
-use code::Answer;
 use code::Code;
 
 // What became of a stripe: its message is decided, no codeword agrees, or more than one does.
@@ -169,7 +167,7 @@ fn solve_within(
     ensures { λ x. ⌜ Verdict code (now (word .entry)) (now (marks .entry)) (now (message .entry)) (now (message .exit)) x ⌝ }
 {
     let n = code.n as usize;
-    let sure = guarantee_of(code) as usize;
+    let sure = losses::guarantee_of(code) as usize;
     let mut points = [0u8; 256];
     let mut coefs = [0u8; 256];
     fill_points(code, &mut points);
@@ -200,8 +198,8 @@ fn solve(code: Code, word: &[u8], marks: &[u8], message: &mut [u8], work: &mut [
 {
     let powers = field::power_table();
     let logs = field::log_table();
-    let lost = count_lost(code, marks);
-    let sure = guarantee_of(code);
+    let lost = losses::count_lost(code, marks);
+    let sure = losses::guarantee_of(code);
     if lost > sure {
         return solve_beyond(code, word, marks, message, work, &powers, &logs);
     }
@@ -254,133 +252,6 @@ pub fn decode(code: Code, word: &[u8], marks: &[u8], message: &mut [u8], work: &
     solve(code, word, marks, message, &mut work[..used])
 }
 
-// How many slots are lost.
-fn count_lost(code: Code, marks: &[u8]) -> u32
-    requires { ⌜ (code-refusal code ≡ 0) × (length (now marks) ≡ code .n) ⌝ }
-    ensures { λ x. ⌜ x ≡ lost-number code (now (marks .entry)) ⌝ }
-{
-    let n = code.n as usize;
-    let mut lost: u32 = 0;
-    let mut p: usize = 0;
-    while p < n {
-        if marks[p] == 1 {
-            lost += 1;
-        }
-        p += 1;
-    }
-    lost
-}
-
-// The first group with two or more losses, 255 if none.
-fn first_group(code: Code, marks: &[u8]) -> u32
-    requires { ⌜ (code-refusal code ≡ 0) × (length (now marks) ≡ code .n) ⌝ }
-    ensures { λ x. ⌜ x ≡ first-broken code (now (marks .entry)) ⌝ }
-{
-    let size = code.r + 1;
-    let groups = code.n / size;
-    let mut j: u32 = 0;
-    'groups: loop {
-        if j == groups {
-            break 255;
-        }
-        let mut lost: u32 = 0;
-        let mut i: u32 = 0;
-        while i < size {
-            if marks[(j * size + i) as usize] == 1 {
-                lost += 1;
-            }
-            if lost > 1 {
-                break 'groups j;
-            }
-            i += 1;
-        }
-        j += 1;
-    }
-}
-
-// n - k - ⌈k/r⌉ + 1: so many losses never lose a message.
-fn guarantee_of(code: Code) -> u32
-    requires { ⌜ code-refusal code ≡ 0 ⌝ }
-    ensures { λ x. ⌜ x ≡ guarantee code ⌝ }
-{
-    let blocks = (code.k + code.r - 1) / code.r;
-    code.n - code.k - (blocks - 1)
-}
-
-// 0: nothing lost; 1: every group mends itself; 2: within the guarantee; 3: beyond.
-fn grade_of(code: Code, marks: &[u8]) -> u32
-    requires { ⌜ (code-refusal code ≡ 0) × (length (now marks) ≡ code .n) ⌝ }
-    ensures { λ x. ⌜ x ≡ grade code (now (marks .entry)) ⌝ }
-{
-    let lost = count_lost(code, marks);
-    if lost == 0 {
-        return 0;
-    }
-    let first = first_group(code, marks);
-    if first == 255 {
-        return 1;
-    }
-    let sure = guarantee_of(code);
-    if lost <= sure {
-        return 2;
-    }
-    3
-}
-
-// The refusal of grade, losses and first_broken, or 0.
-fn marks_refusal(code: Code, marks: &[u8]) -> u32
-    ensures { λ x. ⌜ x ≡ marks-refusal code (now (marks .entry)) ⌝ }
-{
-    let refusal = code::code_refusal(code);
-    if refusal != 0 {
-        return refusal;
-    }
-    let n = code.n as usize;
-    if marks.len() != n {
-        return 5;
-    }
-    if !code::all_below(marks, 2) {
-        return 8;
-    }
-    0
-}
-
-// Grades a stripe by its marks.
-pub fn grade(code: Code, marks: &[u8]) -> Answer
-    ensures { λ x. ⌜ Grade-says code (now (marks .entry)) x ⌝ }
-{
-    let refusal = marks_refusal(code, marks);
-    if refusal != 0 {
-        return Answer { refusal, value: 0 };
-    }
-    let value = grade_of(code, marks);
-    Answer { refusal: 0, value }
-}
-
-// Answers how many slots are lost.
-pub fn losses(code: Code, marks: &[u8]) -> Answer
-    ensures { λ x. ⌜ Losses-says code (now (marks .entry)) x ⌝ }
-{
-    let refusal = marks_refusal(code, marks);
-    if refusal != 0 {
-        return Answer { refusal, value: 0 };
-    }
-    let value = count_lost(code, marks);
-    Answer { refusal: 0, value }
-}
-
-// Answers the first group with two or more losses, 255 if none.
-pub fn first_broken(code: Code, marks: &[u8]) -> Answer
-    ensures { λ x. ⌜ First-says code (now (marks .entry)) x ⌝ }
-{
-    let refusal = marks_refusal(code, marks);
-    if refusal != 0 {
-        return Answer { refusal, value: 0 };
-    }
-    let value = first_group(code, marks);
-    Answer { refusal: 0, value }
-}
-
 // The outcome that a verdict 0, 9 or 10 stands for.
 fn outcome_of(verdict: u32) -> Outcome
     requires { ⌜ Is-verdict verdict ⌝ }
@@ -390,6 +261,17 @@ fn outcome_of(verdict: u32) -> Outcome
         0 => Outcome::Decided,
         9 => Outcome::Foreign,
         _ => Outcome::Undecided,
+    }
+}
+
+// The paper's number of an outcome.
+pub fn outcome_number(outcome: Outcome) -> u32
+    ensures { λ x. ⌜ x ≡ outcome-number outcome ⌝ }
+{
+    match outcome {
+        Outcome::Decided => 0,
+        Outcome::Foreign => 9,
+        Outcome::Undecided => 10,
     }
 }
 
@@ -429,10 +311,10 @@ pub fn record(
         return Recorded { refusal, record };
     }
     let verdict = decode(code, word, marks, message, work);
-    let lost = count_lost(code, marks);
-    let guarantee = guarantee_of(code);
-    let grade = grade_of(code, marks);
-    let first = first_group(code, marks);
+    let lost = losses::count_lost(code, marks);
+    let guarantee = losses::guarantee_of(code);
+    let grade = losses::grade_of(code, marks);
+    let first = losses::first_group(code, marks);
     let outcome = outcome_of(verdict);
     let record = StripeRecord {
         code,

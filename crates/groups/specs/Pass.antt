@@ -15,7 +15,7 @@ use Rattle.field.specs.Field.{q}
 use Rattle.code.specs.Question.{ask, or-ask}
 use Rattle.code.specs.Answer.{Answers}
 use Rattle.code.specs.Code.{size, code-refusal, group, slot-at}
-use Rattle.code.specs.Erasure.{lost, group-losses}
+use Rattle.code.specs.Erasure.{lost, symbols-below, group-losses}
 use Rattle.code.specs.Repair.{mates, repaired, symbols-of, passed, marks-after, mended}
 use Rattle.code.specs.declared.Code.{Code}
 use Rattle.code.specs.declared.Answer.{Answer}
@@ -32,7 +32,7 @@ unfoldable pub lone : Code → (marks : List ℕ) → Bool
 lone c ms = eqb (count (lost ms) (size c)) 1
 
 unfoldable pub part-below : Code → (part marks : List ℕ) → Bool
-part-below c ws ms = not (lone c ms) || every (λ i. lost ms i || ltb (at ws i) (q (c .field))) (size c)
+part-below c ws ms = not (lone c ms) || symbols-below (q (c .field)) ws ms (size c)
 
 unfoldable pub pass-refusal : Code → (word marks : List ℕ) → ℕ
 pass-refusal c ws ms =

@@ -1,10 +1,8 @@
 // Group view and the local pass.
 ghost use mathlib.Core.Path.{_≡_};
-ghost use mathlib.Core.Bool.{_||_};
 ghost use Prim.Native.Nat.{_<_};
-ghost use lib.Dec.{ltb};
 ghost use lib.ListN.{length};
-ghost use Rattle.algebra.specs.Sequence.{at, count, every};
+ghost use Rattle.algebra.specs.Sequence.{at, count};
 ghost use Rattle.field.specs.Table.{Powers, Logs};
 ghost use Rattle.code.specs.Code.{size, groups, code-refusal};
 ghost use Rattle.code.specs.Erasure.{lost};
@@ -77,23 +75,6 @@ fn lost_member(marks: &[u8]) -> usize
     i
 }
 
-// Whether every kept symbol of a part is below most.
-fn kept_below(part: &[u8], marks: &[u8], most: u32) -> bool
-    requires { ⌜ length (now part) ≡ length (now marks) ⌝ }
-    ensures { λ x. ⌜ x ≡ every (λ i. lost (now (marks .entry)) i || ltb (at (now (part .entry)) i) most) (length (now (marks .entry))) ⌝ }
-{
-    let mut i: usize = 0;
-    while i < marks.len() {
-        if marks[i] != 1 {
-            if part[i] as u32 >= most {
-                return false;
-            }
-        }
-        i += 1;
-    }
-    true
-}
-
 // Whether the kept symbols of a group's part are below q, if the group has exactly one loss.
 fn group_below(code: Code, part: &[u8], marks: &[u8]) -> bool
     requires { ⌜ (length (now part) ≡ size code) × (length (now marks) ≡ size code) ⌝ }
@@ -102,7 +83,7 @@ fn group_below(code: Code, part: &[u8], marks: &[u8]) -> bool
     if losses(marks) != 1 {
         return true;
     }
-    kept_below(part, marks, field::order(code.field))
+    code::symbols_below(part, marks, field::order(code.field))
 }
 
 // Whether every symbol that the pass reads is below q.

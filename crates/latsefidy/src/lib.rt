@@ -7,9 +7,8 @@ ghost use Rattle.encode.specs.Encode.{Encode-says};
 ghost use Rattle.repair.specs.Mates.{Repair-says, Rebuild-says};
 ghost use Rattle.groups.specs.View.{view-refusal};
 ghost use Rattle.groups.specs.Pass.{Pass-says};
+ghost use Rattle.losses.specs.Losses.{Grade-says};
 ghost use Rattle.decode.specs.Verdict.{Decode-says};
-ghost use Rattle.decode.specs.Losses.{Grade-says};
-ghost use Rattle.decode.specs.Recording.{outcome-number};
 ghost use Rattle.sheet.specs.Calls.{Write-says};
 ghost use Rattle.reporting.specs.Report.{Report-says};
 ghost use Rattle.latsefidy.specs.Pack.{unpacked, first-slot};
@@ -18,7 +17,6 @@ ghost use Rattle.latsefidy.specs.Record.{four, numbers-of, Record-fills}
 ghost use Rattle.latsefidy.specs.Sheet.{Read-fills};
 use code::Answer;
 use code::Code;
-use decode::Outcome;
 use decode::StripeRecord;
 
 // An answer in one number: the refusal high, the value low.
@@ -180,18 +178,7 @@ pub extern "C" fn latsefidy_decode(
 pub extern "C" fn latsefidy_grade(field: u32, r: u32, n: u32, k: u32, marks: &[u8]) -> u64
     ensures { λ x. ⌜ Grade-says (code-of field r n k) (now (marks .entry)) (unpacked x) ⌝ }
 {
-    packed(decode::grade(Code { field, r, n, k }, marks))
-}
-
-// The paper's number of an outcome.
-fn outcome_number(outcome: Outcome) -> u32
-    ensures { λ x. ⌜ x ≡ outcome-number outcome ⌝ }
-{
-    match outcome {
-        Outcome::Decided => 0,
-        Outcome::Foreign => 9,
-        Outcome::Undecided => 10,
-    }
+    packed(losses::grade(Code { field, r, n, k }, marks))
 }
 
 // Writes the nine numbers of a record.
@@ -201,7 +188,7 @@ fn put_record(stripe: StripeRecord, numbers: &mut [u32])
 {
     let code = stripe.code;
     let outcome = stripe.outcome;
-    let number = outcome_number(outcome);
+    let number = decode::outcome_number(outcome);
     let nine = [
         code.field,
         code.r,

@@ -3,24 +3,11 @@ ghost use mathlib.Core.Path.{_≡_};
 ghost use Prim.Native.Nat.{_≤_};
 ghost use lib.ListN.{length};
 ghost use Rattle.decode.specs.Verdict.{decode-refusal};
-ghost use Rattle.decode.specs.Recording.{outcome-number};
 ghost use Rattle.reporting.specs.Report.{Stripe-says, Text-says, Report-says};
 use code::Answer;
 use code::Code;
-use decode::Outcome;
 
 mod text;
-
-// The paper's number of an outcome.
-fn outcome_number(outcome: Outcome) -> u32
-    ensures { λ x. ⌜ x ≡ outcome-number outcome ⌝ }
-{
-    match outcome {
-        Outcome::Decided => 0,
-        Outcome::Foreign => 9,
-        Outcome::Undecided => 10,
-    }
-}
 
 // Puts the report of an accepted stripe: answers the place behind it.
 fn put_stripe(
@@ -37,7 +24,7 @@ fn put_stripe(
     let drawn = decode::record(code, word, marks, message, work);
     let stripe = drawn.record;
     let outcome = stripe.outcome;
-    let number = outcome_number(outcome);
+    let number = decode::outcome_number(outcome);
     text::put_lines(
         text,
         code,

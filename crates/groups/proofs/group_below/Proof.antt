@@ -1,11 +1,9 @@
 use borrow.Author.Needs.{needs}
 use mathlib.Core.Path.{refl, sym, ap, ap₂, _∙_}
-use mathlib.Core.Bool.{_||_}
-use lib.Dec.{ltb}
 use borrow.Author.Tests.{eq-eqb, ne-eqb}
-use Rattle.algebra.specs.Sequence.{at, count, every}
+use Rattle.algebra.specs.Sequence.{count}
 use Rattle.code.specs.Code.{size}
-use Rattle.code.specs.Erasure.{lost}
+use Rattle.code.specs.Erasure.{lost, symbols-below}
 use Rattle.groups.specs.Pass.{lone, part-below}
 use Rattle.groups.proofs.group_below.Statement.{statement}
 use Rattle.groups.proofs.group_below.Tie as tie
@@ -24,8 +22,8 @@ returns c =
 order-requires : tie.Need-order-requires
 order-requires c κs = search needs
 
-kept-below-requires : tie.Need-kept-below-requires
-kept-below-requires c κs = let s = c .before .before .before .before .before in s .pre .0 ∙ sym (s .pre .1)
+symbols-below-requires : tie.Need-symbols-below-requires
+symbols-below-requires c κs = let s = c .before .before .before .before .before in s .pre .0 ∙ sym (s .pre .1)
 
 returns-2 : tie.Need-returns-2
 unfolding part-below lone
@@ -35,8 +33,8 @@ returns-2 c =
     let ws = s .args .part .now in
     let e = sym (c .before .before .before .losses .ensures ∙ ap (count (lost ms)) (s .pre .1)) ∙ c .before .before .if1 .left in
     rw (eq-eqb (count (lost ms) (size (s .args .code))) 1 e)
-    (c .kept-below .ensures ∙ ap₂ (λ q n. every (λ i. lost ms i || ltb (at ws i) q) n) (c .before .order .ensures .0) (s .pre .1))
+    (c .symbols-below .ensures ∙ ap₂ (λ q n. symbols-below q ws ms n) (c .before .order .ensures .0) (s .pre .1))
 
 pub group-below-spec : {M : Type 1} → statement M
 group-below-spec =
-    tie.close (tie.spec losses-requires returns order-requires kept-below-requires returns-2)
+    tie.close (tie.spec losses-requires returns order-requires symbols-below-requires returns-2)

@@ -7,9 +7,9 @@ use Rattle.algebra.proofs.Sequence.{count-most}
 use Rattle.code.specs.Erasure.{lost, lost-number}
 use Rattle.code.proofs.Accepted.{good, n-byte}
 use Rattle.algebra.proofs.Counting.{count-yes, count-no}
-use Rattle.decode.proofs.Counts.{lost-yes, lost-no}
-use Rattle.decode.proofs.count_lost.Statement.{statement}
-use Rattle.decode.proofs.count_lost.Tie as tie
+use Rattle.losses.proofs.Counts.{lost-yes, lost-no}
+use Rattle.losses.proofs.count_lost.Statement.{statement}
+use Rattle.losses.proofs.count_lost.Tie as tie
 
 abbrev Inv-loop : tie.InvT-loop
 Inv-loop marks n x₀ p₀ x p = (p ≤ n) × (x ≡ count (lost marks) p)

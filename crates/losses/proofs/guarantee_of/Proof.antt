@@ -1,9 +1,9 @@
 use native.Mathlib.Omega.{arith}
 use Rattle.code.proofs.Accepted.{good, n-byte}
 use Rattle.code.proofs.Exponents.{k-below}
-use Rattle.decode.proofs.Counts.{guarantee-sum, blocks-is, blocks-room}
-use Rattle.decode.proofs.guarantee_of.Statement.{statement}
-use Rattle.decode.proofs.guarantee_of.Tie as tie
+use Rattle.losses.proofs.Counts.{guarantee-sum, blocks-is, blocks-room}
+use Rattle.losses.proofs.guarantee_of.Statement.{statement}
+use Rattle.losses.proofs.guarantee_of.Tie as tie
 
 add-blocks : tie.Need-add-blocks
 add-blocks c = let s = c .before in let a = s .args .code in omega (arith, k-below a (good a (s .pre)), n-byte a (good a (s .pre)), good a (s .pre) .r-most)

@@ -1,9 +1,9 @@
 use mathlib.Core.Path.{sym, _∙_}
 use borrow.Author.Tests.{not-true, not-false}
-use Rattle.decode.proofs.Replies.{marks-stop, marks-five, marks-eight, marks-none}
+use Rattle.losses.proofs.Refusals.{marks-stop, marks-five, marks-eight, marks-none}
 use borrow.Author.Needs.{needs}
-use Rattle.decode.proofs.marks_refusal.Statement.{statement}
-use Rattle.decode.proofs.marks_refusal.Tie as tie
+use Rattle.losses.proofs.marks_refusal.Statement.{statement}
+use Rattle.losses.proofs.marks_refusal.Tie as tie
 
 code-refusal-requires : tie.Need-code-refusal-requires
 code-refusal-requires c κs = search needs

@@ -1,9 +1,9 @@
 -- `outcome_number` meets its contract. Assumes nothing.
 use mathlib.Core.Path.{sym, ap}
 use Rattle.decode.specs.Recording.{outcome-number}
 use borrow.Author.Needs.{needs}
-use Rattle.latsefidy.proofs.outcome_number.Statement.{statement}
-use Rattle.latsefidy.proofs.outcome_number.Tie as tie
+use Rattle.decode.proofs.outcome_number.Statement.{statement}
+use Rattle.decode.proofs.outcome_number.Tie as tie
 
 enum-told : tie.Need-enum-told
 enum-told c = search needs

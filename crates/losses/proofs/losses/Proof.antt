@@ -1,11 +1,11 @@
 use mathlib.Core.Path.{refl, sym, _∙_}
 use Rattle.code.proofs.Answers.{answers-no, answers-yes}
 use Rattle.code.specs.Erasure.{lost-number}
-use Rattle.decode.specs.Losses.{marks-refusal, Losses-says}
-use Rattle.decode.proofs.Replies.{marks-passed}
+use Rattle.losses.specs.Losses.{marks-refusal, Losses-says}
+use Rattle.losses.proofs.Refusals.{marks-passed}
 use borrow.Author.Needs.{needs}
-use Rattle.decode.proofs.losses.Statement.{statement}
-use Rattle.decode.proofs.losses.Tie as tie
+use Rattle.losses.proofs.losses.Statement.{statement}
+use Rattle.losses.proofs.losses.Tie as tie
 
 marks-refusal-requires : tie.Need-marks-refusal-requires
 marks-refusal-requires c κs = search needs

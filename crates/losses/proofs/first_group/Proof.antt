@@ -5,9 +5,9 @@ use native.Mathlib.Omega.{arith}
 use borrow.Author.Count.{below-more}
 use Rattle.algebra.specs.Sequence.{count}
 use Rattle.code.proofs.Accepted.{good, n-byte}
-use Rattle.decode.proofs.Counts.{losses-to, member-yes, member-no, found, found-none, groups-is, groups-few, member-below}
-use Rattle.decode.proofs.first_group.Statement.{statement}
-use Rattle.decode.proofs.first_group.Tie as tie
+use Rattle.losses.proofs.Counts.{losses-to, member-yes, member-no, found, found-none, groups-is, groups-few, member-below}
+use Rattle.losses.proofs.first_group.Statement.{statement}
+use Rattle.losses.proofs.first_group.Tie as tie
 
 abbrev Inv-loop : tie.InvT-loop
 Inv-loop marks size groups j lost₀ i₀ lost i = (i ≤ size) × (lost ≤ 1) × (lost ≡ losses-to size marks j i)

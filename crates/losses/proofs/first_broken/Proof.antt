@@ -1,11 +1,11 @@
 use mathlib.Core.Path.{refl, sym, _∙_}
 use Rattle.code.proofs.Answers.{answers-no, answers-yes}
 use Rattle.code.specs.Erasure.{first-broken}
-use Rattle.decode.specs.Losses.{marks-refusal, First-says}
-use Rattle.decode.proofs.Replies.{marks-passed}
+use Rattle.losses.specs.Losses.{marks-refusal, First-says}
+use Rattle.losses.proofs.Refusals.{marks-passed}
 use borrow.Author.Needs.{needs}
-use Rattle.decode.proofs.first_broken.Statement.{statement}
-use Rattle.decode.proofs.first_broken.Tie as tie
+use Rattle.losses.proofs.first_broken.Statement.{statement}
+use Rattle.losses.proofs.first_broken.Tie as tie
 
 marks-refusal-requires : tie.Need-marks-refusal-requires
 marks-refusal-requires c κs = search needs

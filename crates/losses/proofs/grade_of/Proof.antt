@@ -1,9 +1,9 @@
 use mathlib.Core.Path.{sym, _∙_}
 use native.Mathlib.Omega.{arith}
-use Rattle.decode.proofs.Counts.{grade-none, grade-local, grade-sure, grade-beyond}
+use Rattle.losses.proofs.Counts.{grade-none, grade-local, grade-sure, grade-beyond}
 use borrow.Author.Needs.{needs}
-use Rattle.decode.proofs.grade_of.Statement.{statement}
-use Rattle.decode.proofs.grade_of.Tie as tie
+use Rattle.losses.proofs.grade_of.Statement.{statement}
+use Rattle.losses.proofs.grade_of.Tie as tie
 
 count-lost-requires : tie.Need-count-lost-requires
 count-lost-requires c κs = search needs
