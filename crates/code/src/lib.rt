@@ -2,11 +2,11 @@
 ghost use mathlib.Core.Path.{_≡_};
 ghost use Prim.Native.Nat.{_-_, _≤_, _<_};
 ghost use lib.ListN.{length};
-ghost use Rattle.algebra.specs.Sequence.{all-below};
+ghost use Rattle.algebra.specs.Sequence.{count, all-below};
 ghost use Rattle.field.specs.Field.{q};
 ghost use Rattle.code.specs.Question.{ask};
 ghost use Rattle.code.specs.Code.{n-fits, k-fits, code-refusal, point};
-ghost use Rattle.code.specs.Erasure.{symbols-below, kept-below};
+ghost use Rattle.code.specs.Erasure.{lost, symbols-below, kept-below};
 
 // The field, the locality r, the length n and the dimension k.
 pub struct Code {
@@ -94,6 +94,21 @@ pub fn all_below(entries: &[u8], most: u32) -> bool
         }
     }
     true
+}
+
+// How many marks are 1.
+pub fn losses_in(marks: &[u8]) -> usize
+    ensures { λ x. ⌜ x ≡ count (lost (now (marks .entry))) (length (now (marks .entry))) ⌝ }
+{
+    let mut number: usize = 0;
+    let mut i: usize = 0;
+    while i < marks.len() {
+        if marks[i] == 1 {
+            number += 1;
+        }
+        i += 1;
+    }
+    number
 }
 
 // Whether every kept symbol is below most.

@@ -45,21 +45,6 @@ pub fn group_view(code: Code, slot: u32, word: &[u8]) -> &[u8]
     &word[start..end]
 }
 
-// How many marks are 1.
-fn losses(marks: &[u8]) -> usize
-    ensures { λ x. ⌜ x ≡ count (lost (now (marks .entry))) (length (now (marks .entry))) ⌝ }
-{
-    let mut number: usize = 0;
-    let mut i: usize = 0;
-    while i < marks.len() {
-        if marks[i] == 1 {
-            number += 1;
-        }
-        i += 1;
-    }
-    number
-}
-
 // The place of the only mark that is 1.
 fn lost_member(marks: &[u8]) -> usize
     requires { ⌜ count (lost (now marks)) (length (now marks)) ≡ 1 ⌝ }
@@ -80,7 +65,7 @@ fn group_below(code: Code, part: &[u8], marks: &[u8]) -> bool
     requires { ⌜ (length (now part) ≡ size code) × (length (now marks) ≡ size code) ⌝ }
     ensures { λ x. ⌜ x ≡ part-below code (now (part .entry)) (now (marks .entry)) ⌝ }
 {
-    if losses(marks) != 1 {
+    if code::losses_in(marks) != 1 {
         return true;
     }
     code::symbols_below(part, marks, field::order(code.field))
@@ -157,7 +142,7 @@ fn mend_group(
     requires { ⌜ Powers 1 (now powers) × Logs (now logs) × (code-refusal code ≡ 0) × (group < groups code) × (length (now part) ≡ size code) × (length (now marks) ≡ size code) ⌝ }
     ensures { λ x. ⌜ Group-mended code group (now (part .entry)) (now (marks .entry)) x (now (part .exit)) (now (marks .exit)) ⌝ }
 {
-    if losses(marks) != 1 {
+    if code::losses_in(marks) != 1 {
         return 0;
     }
     let i = lost_member(marks);

@@ -12,16 +12,7 @@ pub fn count_lost(code: Code, marks: &[u8]) -> u32
     requires { ⌜ (code-refusal code ≡ 0) × (length (now marks) ≡ code .n) ⌝ }
     ensures { λ x. ⌜ x ≡ lost-number code (now (marks .entry)) ⌝ }
 {
-    let n = code.n as usize;
-    let mut lost: u32 = 0;
-    let mut p: usize = 0;
-    while p < n {
-        if marks[p] == 1 {
-            lost += 1;
-        }
-        p += 1;
-    }
-    lost
+    code::losses_in(marks) as u32
 }
 
 // The first group with two or more losses, 255 if none.

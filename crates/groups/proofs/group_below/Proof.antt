@@ -8,15 +8,15 @@ use Rattle.groups.specs.Pass.{lone, part-below}
 use Rattle.groups.proofs.group_below.Statement.{statement}
 use Rattle.groups.proofs.group_below.Tie as tie
 
-losses-requires : tie.Need-losses-requires
-losses-requires c κs = search needs
+losses-in-requires : tie.Need-losses-in-requires
+losses-in-requires c κs = search needs
 
 returns : tie.Need-returns
 unfolding part-below lone
 returns c =
     let s = c .before .before .before .before in
     let ms = s .args .marks .now in
-    let e = c .before .losses .ensures ∙ ap (count (lost ms)) (s .pre .1) in
+    let e = c .before .losses-in .ensures ∙ ap (count (lost ms)) (s .pre .1) in
     rw (ne-eqb (count (lost ms) (size (s .args .code))) 1 (λ z. c .if1 .taken (e ∙ z))) refl
 
 order-requires : tie.Need-order-requires
@@ -31,10 +31,10 @@ returns-2 c =
     let s = c .before .before .before .before .before .before in
     let ms = s .args .marks .now in
     let ws = s .args .part .now in
-    let e = sym (c .before .before .before .losses .ensures ∙ ap (count (lost ms)) (s .pre .1)) ∙ c .before .before .if1 .left in
+    let e = sym (c .before .before .before .losses-in .ensures ∙ ap (count (lost ms)) (s .pre .1)) ∙ c .before .before .if1 .left in
     rw (eq-eqb (count (lost ms) (size (s .args .code))) 1 e)
     (c .symbols-below .ensures ∙ ap₂ (λ q n. symbols-below q ws ms n) (c .before .order .ensures .0) (s .pre .1))
 
 pub group-below-spec : {M : Type 1} → statement M
 group-below-spec =
-    tie.close (tie.spec losses-requires returns order-requires symbols-below-requires returns-2)
+    tie.close (tie.spec losses-in-requires returns order-requires symbols-below-requires returns-2)

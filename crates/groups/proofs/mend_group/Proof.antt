@@ -17,8 +17,8 @@ use Rattle.groups.proofs.Mending.{same-part, mended-part, mended-symbol
 use Rattle.groups.proofs.mend_group.Statement.{statement}
 use Rattle.groups.proofs.mend_group.Tie as tie
 
-losses-requires : tie.Need-losses-requires
-losses-requires c κs = search needs
+losses-in-requires : tie.Need-losses-in-requires
+losses-in-requires c κs = search needs
 
 same-length : tie.Need-same-length
 same-length c = search needs
@@ -29,7 +29,7 @@ returns c =
     let s = c .before .before .before .before .before in
     let a = s .args in
     let ms = a .marks .now in
-    let e = c .before .losses .ensures ∙ ap (count (lost ms)) (s .pre .5) in
+    let e = c .before .losses-in .ensures ∙ ap (count (lost ms)) (s .pre .5) in
     let n = ne-eqb (count (lost ms) (size (a .code))) 1 (λ z. c .if1 .taken (e ∙ z)) in
     record {
       number = rw n refl;
@@ -111,7 +111,7 @@ returns-2 c =
     let a = s .args in
     let ms = a .marks .now in
     let i = c .before .before .before .before .before .before .before .before .lost-member .result in
-    let e = sym (c .before .before .before .before .before .before .before .before .before .before .before .losses .ensures ∙ ap (count (lost ms)) (s .pre .5)) ∙ c .before .before .before .before .before .before .before .before .before .before .if1 .left in
+    let e = sym (c .before .before .before .before .before .before .before .before .before .before .before .losses-in .ensures ∙ ap (count (lost ms)) (s .pre .5)) ∙ c .before .before .before .before .before .before .before .before .before .before .if1 .left in
     let y = eq-eqb (count (lost ms) (a .code .r + 1)) 1 e in
     let t = eq-eqb (at ms i) 1 (c .before .before .before .before .before .before .before .before .lost-member .ensures .1) in
     let h = slot-within (c .before .before .before .before .before .before .before .before) .0 in
@@ -126,7 +126,7 @@ pub mend-group-spec : {M : Type 1} → statement M
 mend-group-spec =
     tie.close
     (tie.spec
-    losses-requires
+    losses-in-requires
     same-length
     returns
     lost-member-requires

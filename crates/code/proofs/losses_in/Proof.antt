@@ -6,10 +6,10 @@ use lib.ListN.{length}
 use borrow.Author.Tests.{eq-eqb, ne-eqb}
 use Rattle.algebra.specs.Sequence.{at, count}
 use Rattle.algebra.proofs.Sequence.{count-most}
 use Rattle.code.specs.Erasure.{lost}
 use Rattle.algebra.proofs.Counting.{count-zero, count-yes, count-no}
-use Rattle.groups.proofs.losses.Statement.{statement}
-use Rattle.groups.proofs.losses.Tie as tie
+use Rattle.code.proofs.losses_in.Statement.{statement}
+use Rattle.code.proofs.losses_in.Tie as tie
 
 abbrev Inv-loop : tie.InvT-loop
 Inv-loop marks number₀ i₀ number i = (i ≤ length marks) × (number ≡ count (lost marks) i)
@@ -51,8 +51,8 @@ returns c =
     let e : l .i ≡ length ms = omega arith in
     l .inv .1 ∙ ap (count (lost ms)) e
 
-pub losses-spec : {M : Type 1} → statement M
-losses-spec =
+pub losses-in-spec : {M : Type 1} → statement M
+losses-in-spec =
     tie.close
     (tie.spec
     Inv-loop
