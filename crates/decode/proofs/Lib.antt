@@ -3,3 +3,4 @@ pub mod Verdicts
 pub mod Refusals
 pub mod Replies
 pub mod Interpolating
+pub mod Mending

@@ -1,6 +1,7 @@
 -- What decode answers, writes and leaves behind. Assumes nothing: these are definitions.
 --   decode-refusal       questions 1 to 4, 5, 8, 6
 --   Verdict c ws ms a z  == 0: just one message fits, and z is it; 9: none fits; 10: two different ones do; z is a on 9 and 10
+--   Tried c ws ms a z x  == the verdict x; or x is 11, which is none, and z is a
 --   cleared c w          == the work buffer w with its first n × (k + 1) bytes 0
 --   Decode-says          the verdict with work cleared, or the refusal with both buffers unchanged
 use mathlib.Core.Path.{_≡_}
@@ -34,6 +35,9 @@ pub data Verdict (c : Code) (ws ms before after : List ℕ) : ℕ → Type 0 whe
   more :
       (ys zs : List ℕ) → fits c ws ms ys ≡ true → fits c ws ms zs ≡ true → ys ≢ zs → after ≡ before
       → Verdict c ws ms before after 10
+
+abbrev pub Tried : Code → (word marks before after : List ℕ) → ℕ → Type 0
+Tried c ws ms a z x = (x ≢ 11 → Verdict c ws ms a z x) × (x ≡ 11 → z ≡ a)
 
 unfoldable pub cleared : Code → List ℕ → List ℕ
 cleared c w = replicate (used c) 0 ++ drop (used c) w

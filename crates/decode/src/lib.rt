@@ -2,12 +2,12 @@
 ghost use mathlib.Core.Path.{_≡_};
 ghost use mathlib.Core.Bool.{true};
 ghost use Prim.Native.Nat.{_+_, _*_, _<_, _≤_};
-ghost use lib.ListN.{length, replicate};
+ghost use lib.ListN.{length, take, replicate};
 ghost use Rattle.field.specs.Table.{Powers, Logs};
 ghost use Rattle.code.specs.Code.{code-refusal};
 ghost use Rattle.code.specs.Erasure.{kept-below, lost-number, guarantee};
 ghost use Rattle.linear.specs.System.{Echelon};
-ghost use Rattle.decode.specs.Verdict.{decode-refusal, Verdict, Decode-says};
+ghost use Rattle.decode.specs.Verdict.{decode-refusal, Verdict, Tried, Decode-says};
 ghost use Rattle.decode.specs.Gathering.{Taken, Gathered};
 ghost use Rattle.decode.specs.Interpolating.{Pointed, gaps-zero, message-of};
 ghost use Rattle.decode.specs.Recording.{Is-verdict, outcome-number, blank, Record-says};
@@ -191,6 +191,75 @@ fn solve_within(
     0
 }
 
+// Local repair in place, then interpolation; 11, and nothing written, where the losses left are beyond the guarantee.
+fn solve_mended(
+    code: Code,
+    word: &mut [u8],
+    marks: &mut [u8],
+    message: &mut [u8],
+    powers: &[u8; 255],
+    logs: &[u8; 256],
+) -> u32
+    requires { ⌜ (code-refusal code ≡ 0) × (length (now word) ≡ code .n) × (length (now marks) ≡ code .n) × (kept-below code (now word) (now marks) ≡ true) × (length (now message) ≡ code .k) × Powers 1 (now powers) × Logs (now logs) ⌝ }
+    ensures { λ x. ⌜ Tried code (now (word .entry)) (now (marks .entry)) (now (message .entry)) (now (message .exit)) x ⌝ }
+{
+    let pass = groups::local_pass(code, word, marks);
+    if pass.refusal != 0 {
+        return 11;
+    }
+    let left = losses::count_lost(code, marks);
+    let sure = losses::guarantee_of(code);
+    if left > sure {
+        return 11;
+    }
+    solve_within(code, word, marks, message, powers, logs)
+}
+
+// Copies bytes to the front of an array.
+fn copy(from: &[u8], to: &mut [u8; 255])
+    requires { ⌜ (length (now from) ≤ 255) × (length (now to) ≡ 255) ⌝ }
+    ensures { λ _. ⌜ take (length (now (from .entry))) (now (to .exit)) ≡ now (from .entry) ⌝ }
+{
+    let mut i: usize = 0;
+    while i < from.len() {
+        to[i] = from[i];
+        i += 1;
+    }
+}
+
+// Local repair of a copy where that brings the losses within the guarantee, elimination else. All of work is left 0.
+fn solve_broken(
+    code: Code,
+    word: &[u8],
+    marks: &[u8],
+    message: &mut [u8],
+    work: &mut [u8],
+    powers: &[u8; 255],
+    logs: &[u8; 256],
+) -> u32
+    requires { ⌜ (code-refusal code ≡ 0) × (length (now word) ≡ code .n) × (length (now marks) ≡ code .n) × (kept-below code (now word) (now marks) ≡ true) × (length (now message) ≡ code .k) × (code .k * (code .k + 1) + (code .k + 1) ≤ length (now work)) × Powers 1 (now powers) × Logs (now logs) ⌝ }
+    ensures { λ x. ⌜ Verdict code (now (word .entry)) (now (marks .entry)) (now (message .entry)) (now (message .exit)) x × (now (work .exit) ≡ replicate (length (now (work .entry))) 0) ⌝ }
+{
+    let n = code.n as usize;
+    let mut mended = [0u8; 255];
+    let mut left = [0u8; 255];
+    copy(word, &mut mended);
+    copy(marks, &mut left);
+    let verdict = solve_mended(
+        code,
+        &mut mended[..n],
+        &mut left[..n],
+        message,
+        powers,
+        logs,
+    );
+    if verdict == 11 {
+        return solve_beyond(code, word, marks, message, work, powers, logs);
+    }
+    linear::clear(work);
+    verdict
+}
+
 // 0: just one message fits, and is written; 9: none; 10: more than one. All of work is left 0.
 fn solve(code: Code, word: &[u8], marks: &[u8], message: &mut [u8], work: &mut [u8]) -> u32
     requires { ⌜ (code-refusal code ≡ 0) × (length (now word) ≡ code .n) × (length (now marks) ≡ code .n) × (kept-below code (now word) (now marks) ≡ true) × (length (now message) ≡ code .k) × (code .k * (code .k + 1) + (code .k + 1) ≤ length (now work)) ⌝ }
@@ -201,7 +270,7 @@ fn solve(code: Code, word: &[u8], marks: &[u8], message: &mut [u8], work: &mut [
     let lost = losses::count_lost(code, marks);
     let sure = losses::guarantee_of(code);
     if lost > sure {
-        return solve_beyond(code, word, marks, message, work, &powers, &logs);
+        return solve_broken(code, word, marks, message, work, &powers, &logs);
     }
     linear::clear(work);
     solve_within(code, word, marks, message, &powers, &logs)

@@ -15,8 +15,8 @@ count-lost-requires c κs = search needs
 guarantee-of-requires : tie.Need-guarantee-of-requires
 guarantee-of-requires c κs = search needs
 
-solve-beyond-requires : tie.Need-solve-beyond-requires
-solve-beyond-requires c κs = search needs
+solve-broken-requires : tie.Need-solve-broken-requires
+solve-broken-requires c κs = search needs
 
 same-length : tie.Need-same-length
 same-length c = search needs
@@ -60,7 +60,7 @@ solve-spec =
     log-table-requires
     count-lost-requires
     guarantee-of-requires
-    solve-beyond-requires
+    solve-broken-requires
     same-length
     same-length-2
     returns

@@ -1,0 +1,120 @@
+use mathlib.Core.Path.{_≡_, sym, ap, subst, _∙_}
+use mathlib.Core.Bool.{true}
+use mathlib.Core.List.{List}
+use Prim.Native.Nat.{ℕ}
+use native.Mathlib.Omega.{arith}
+use lib.ListN.{length, take}
+use borrow.Author.Needs.{needs}
+use Rattle.code.specs.Erasure.{kept-below}
+use Rattle.code.proofs.Accepted.{good, n-byte}
+use Rattle.decode.specs.Verdict.{Verdict}
+use Rattle.decode.proofs.Mending.{front, room}
+use Rattle.decode.proofs.solve_broken.Statement.{statement}
+use Rattle.decode.proofs.solve_broken.Tie as tie
+
+cast-n : tie.Need-cast-n
+cast-n c = search needs
+
+copy-requires : tie.Need-copy-requires
+copy-requires c κs = let s = c .before .before .before .before .before .before in (omega (arith, n-byte (s .args .code) (good (s .args .code) (s .pre .0)), s .pre .1), search needs)
+
+copy-requires-2 : tie.Need-copy-requires-2
+copy-requires-2 c κs = let s = c .before .before .before .before .before .before .before .before in (omega (arith, n-byte (s .args .code) (good (s .args .code) (s .pre .0)), s .pre .2), search needs)
+
+array-borrow-prefix-mended : tie.Need-array-borrow-prefix-mended
+array-borrow-prefix-mended c =
+    let s = c .before .before .before .before .before .before .before .before .before in
+    room (s .args .code .n) (s .args .word .now) (c .before .before .copy .last .1 .0) (s .pre .1) (c .before .before .copy .ensures)
+
+slice-aggregate-solve-mended : tie.Need-slice-aggregate-solve-mended
+slice-aggregate-solve-mended c =
+    let s = c .before .before .before .before .before .before .before .before .before .before in
+    let a = s .args in
+    sym (ap (λ (xs : List ℕ). length xs) (front (a .code .n) (a .word .now) (c .before .before .before .copy .last .1 .0) (s .pre .1) (c .before .before .before .copy .ensures)) ∙ s .pre .1)
+
+array-borrow-prefix-left : tie.Need-array-borrow-prefix-left
+array-borrow-prefix-left c =
+    let s = c .before .before .before .before .before .before .before .before .before .before in
+    room (s .args .code .n) (s .args .marks .now) (c .before .copy2 .last .1 .0) (s .pre .2) (c .before .copy2 .ensures)
+
+slice-aggregate-solve-mended-2 : tie.Need-slice-aggregate-solve-mended-2
+slice-aggregate-solve-mended-2 c =
+    let s = c .before .before .before .before .before .before .before .before .before .before .before in
+    let a = s .args in
+    sym (ap (λ (xs : List ℕ). length xs) (front (a .code .n) (a .marks .now) (c .before .before .copy2 .last .1 .0) (s .pre .2) (c .before .before .copy2 .ensures)) ∙ s .pre .2)
+
+solve-mended-requires : tie.Need-solve-mended-requires
+solve-mended-requires c κs =
+    let s = c .before .before .before .before .before .before .before .before .before .before .before .before in
+    let a = s .args in
+    let m = front (a .code .n) (a .word .now) (c .before .before .before .before .before .copy .last .1 .0) (s .pre .1) (c .before .before .before .before .before .copy .ensures) in
+    let l = front (a .code .n) (a .marks .now) (c .before .before .before .copy2 .last .1 .0) (s .pre .2) (c .before .before .before .copy2 .ensures) in (
+      s .pre .0,
+      ap (λ (xs : List ℕ). length xs) m ∙ s .pre .1,
+      ap (λ (xs : List ℕ). length xs) l ∙ s .pre .2,
+      subst (λ (xs : List ℕ). kept-below (a .code) xs (take (a .code .n) (c .before .before .before .copy2 .last .1 .0)) ≡ true) (sym m) (subst (λ (xs : List ℕ). kept-below (a .code) (a .word .now) xs ≡ true) (sym l) (s .pre .3)),
+      s .pre .4,
+      s .pre .6,
+      s .pre .7,
+    )
+
+solve-beyond-requires : tie.Need-solve-beyond-requires
+solve-beyond-requires c κs =
+    let s = c .before .before .before .before .before .before .before .before .before .before .before .before .before .before .before .before .before .before .before .before in
+    (s .pre .0, s .pre .1, s .pre .2, s .pre .3, search needs, s .pre .5, s .pre .6, s .pre .7)
+
+same-length : tie.Need-same-length
+same-length c = search needs
+
+same-length-2 : tie.Need-same-length-2
+same-length-2 c = search needs
+
+returns : tie.Need-returns
+returns c =
+    let s = c .before .before .before .before .before .before .before .before .before .before .before .before .before .before .before .before .before .before .before .before .before .before .before .before .before in
+    let a = s .args in
+    let t = c .before .before .before .before .before .before .before .before .before .before .before .before .solve-mended in
+    let y = c .before .before .before .before .solve-beyond in
+    (subst (λ (xs : List ℕ). Verdict (a .code) (a .word .now) (a .marks .now) xs (y .last .1 .1 .1 .0) (y .result)) (t .ensures .1 (c .before .before .before .before .before .before .before .if1 .taken)) (y .ensures .0), y .ensures .1)
+
+clear-requires : tie.Need-clear-requires
+clear-requires c κs = search needs
+
+same-length-3 : tie.Need-same-length-3
+same-length-3 c = search needs
+
+same-length-4 : tie.Need-same-length-4
+same-length-4 c = search needs
+
+returns-2 : tie.Need-returns-2
+returns-2 c =
+    let s = c .before .before .before .before .before .before .before .before .before .before .before .before .before .before .before .before .before .before .before .before .before .before in
+    let a = s .args in
+    let m = front (a .code .n) (a .word .now) (c .before .before .before .before .before .before .before .before .before .before .before .before .before .before .before .copy .last .1 .0) (s .pre .1) (c .before .before .before .before .before .before .before .before .before .before .before .before .before .before .before .copy .ensures) in
+    let l = front (a .code .n) (a .marks .now) (c .before .before .before .before .before .before .before .before .before .before .before .before .before .copy2 .last .1 .0) (s .pre .2) (c .before .before .before .before .before .before .before .before .before .before .before .before .before .copy2 .ensures) in
+    let t = c .before .before .before .before .before .before .before .before .before .solve-mended in (
+      subst (λ (xs : List ℕ). Verdict (a .code) (a .word .now) xs (a .message .now) (t .last .1 .1 .1 .0) (t .result)) l
+          (subst (λ (xs : List ℕ). Verdict (a .code) xs (take (a .code .n) (c .before .before .before .before .before .before .before .before .before .before .before .before .before .copy2 .last .1 .0)) (a .message .now) (t .last .1 .1 .1 .0) (t .result)) m (t .ensures .0 (c .before .before .before .before .if1 .left))),
+      c .before .before .clear .ensures,
+    )
+
+pub solve-broken-spec : {M : Type 1} → statement M
+solve-broken-spec =
+    tie.close
+    (tie.spec
+    cast-n
+    copy-requires
+    copy-requires-2
+    array-borrow-prefix-mended
+    slice-aggregate-solve-mended
+    array-borrow-prefix-left
+    slice-aggregate-solve-mended-2
+    solve-mended-requires
+    solve-beyond-requires
+    same-length
+    same-length-2
+    returns
+    clear-requires
+    same-length-3
+    same-length-4
+    returns-2)
