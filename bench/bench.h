@@ -1,0 +1,54 @@
+/* What the tables share: the library at its three levels, the clock, the field and the code. */
+#ifndef BENCH_H
+#define BENCH_H
+
+#include <stddef.h>
+#include <stdint.h>
+
+/* the strip kernel and the calls, at each level */
+#define LEVEL(s)                                                                                                        \
+    _Bool rebuild_strips##s(const uint8_t *weights, size_t r, const uint8_t *strips, size_t strips_len, uint8_t *output,  \
+                            size_t output_len);                                                                        \
+    uint32_t latsefidy_rebuild##s(uint32_t field, uint32_t r, uint32_t n, uint32_t k, uint32_t slot,                     \
+                                  const uint8_t *strips, size_t strips_len, uint8_t *out, size_t out_len);              \
+    uint32_t latsefidy_encode##s(uint32_t field, uint32_t r, uint32_t n, uint32_t k, const uint8_t *message,             \
+                                 size_t message_len, uint8_t *codeword, size_t codeword_len);                          \
+    uint32_t latsefidy_decode##s(uint32_t field, uint32_t r, uint32_t n, uint32_t k, const uint8_t *word,                \
+                                 size_t word_len, const uint8_t *marks, size_t marks_len, uint8_t *message,             \
+                                 size_t message_len, uint8_t *work, size_t work_len);
+LEVEL()
+LEVEL(_v3)
+LEVEL(_v4)
+
+enum { N = 255 };
+
+extern int wide; /* the machine has what x86-64-v4 asks */
+
+typedef struct {
+    const char *name;
+    void (*call)(void);
+    int needs; /* AVX-512 */
+    double best;
+} contestant;
+
+double now(void);
+double own_time(void); /* of this thread alone; a look at it takes 0.2 microseconds */
+/* the best time of each, over rounds in which each has its turn for about so many seconds */
+void race(contestant *who, int count, int rounds, double turn);
+_Noreturn void differs(const char *name);
+
+/* bytes with polynomial 11D, bit by bit */
+uint8_t mul(uint8_t a, uint8_t b);
+uint8_t power(uint8_t a, int e);
+
+/* the generator matrix, n rows of k: column m is the codeword of the message with 1 at m and else 0 */
+void generate(int r, int n, int k, uint8_t *generator);
+/* by ISA-L: the inverse of the rows of the first k kept slots, at most r of a group, and these slots; 0 if there is one */
+int invert_kept(int r, int n, int k, const uint8_t *generator, const uint8_t *marks, uint8_t *inverse, int *slots);
+
+/* the tables */
+void rebuild(void);
+void stripes(void);
+void strips(void);
+
+#endif
