@@ -4,3 +4,4 @@ pub mod Refusals
 pub mod Replies
 pub mod Interpolating
 pub mod Mending
+pub mod Copying

@@ -2,21 +2,17 @@
 --   kept-after               the kept symbols are below q after the pass too
 --   verdict-after            a verdict on the word and the marks after the pass is one on those before it
 --   tried, untried           a verdict is tried, and so is 11 with the message unchanged
---   copied, front, room      the front of a buffer filled with a list's entries is the list, and the buffer is as long
 use mathlib.Core.Path.{_≡_, refl, sym, ap, _∙_}
 use mathlib.Core.Logic.{_≢_}
 use mathlib.Core.Bool.{Bool, true, false, cond, _&&_, _||_}
 use mathlib.Core.List.{List, [], _∷_}
-use Prim.Native.Nat.{ℕ, _≤_, _<_}
+use Prim.Native.Nat.{ℕ, _<_}
 use native.Mathlib.Omega.{arith}
 use lib.Dec.{T, eqb, ltb, lt→ltb}
-use lib.ListN.{length, take, length-take}
-use lib.Seq.{length-take-le, getD-take}
 use borrow.Author.Tests.{eq-eqb, ne-eqb, eqb-true}
 use Rattle.algebra.specs.Sequence.{at, Each}
 use Rattle.algebra.proofs.Counting.{count-one, or-right}
-use Rattle.algebra.proofs.Filling.{Filled}
-use Rattle.algebra.proofs.Sequence.{so, yes-true, and-left, and-right, each-intro, map-each, every-at, every-intro, tabulate-is}
+use Rattle.algebra.proofs.Sequence.{so, yes-true, and-left, and-right, each-intro, map-each, every-at, every-intro}
 use Rattle.field.specs.Field.{q, times}
 use Rattle.field.specs.Polynomial.{dotted}
 use Rattle.field.proofs.Laws.{laws}
@@ -39,6 +35,7 @@ use Rattle.groups.proofs.Promises.{at-passed, at-marks}
 use Rattle.linear.proofs.Elimination.{differ}
 use Rattle.decode.specs.Verdict.{Verdict, one, none, more, Tried}
 use Rattle.decode.proofs.Equations.{Fit, fits-to, fits-of}
+use Rattle.decode.proofs.Verdicts.{verdict-same}
 
 -- a sum of products is below q
 dotted-below : (f : ℕ) (us xs : List ℕ) → dotted f us xs < q f
@@ -105,11 +102,6 @@ module _ (c : Code) (e : code-refusal c ≡ 0) (ws ms : List ℕ) where
     fits-before : fits c (passed c ws ms) (marks-after c ms) ys ≡ true → fits c ws ms ys ≡ true
     fits-before f = fits-of c ws ms ys (fit-before (fits-to c (passed c ws ms) (marks-after c ms) ys f))
 
-  verdict-back : (a z : List ℕ) (x : ℕ) → Verdict c (passed c ws ms) (marks-after c ms) a z x → Verdict c ws ms a z x
-  verdict-back a z x (one f u) = one (fits-before z f) (λ ys g. u ys (fits-after ys g))
-  verdict-back a z x (none n d) = none (λ ys g. n ys (fits-after ys g)) d
-  verdict-back a z x (more ys zs f g n d) = more ys zs (fits-before ys f) (fits-before zs g) n d
-
   kept-passed : kept-below c ws ms ≡ true → kept-below c (passed c ws ms) (marks-after c ms) ≡ true
   unfolding kept-below lost repaired
   kept-passed k =
@@ -139,7 +131,7 @@ module _ (c : Code) (e : code-refusal c ≡ 0) (ws ms : List ℕ) where
     kept-after k = rw (word-is, marks-are) (kept-passed k)
 
     pub verdict-after : (a b : List ℕ) (y : ℕ) → Verdict c vs ns a b y → Verdict c ws ms a b y
-    verdict-after a b y v = verdict-back a b y (rw (word-is, marks-are) at v)
+    verdict-after a b y v = verdict-same c ws ms (passed c ws ms) (marks-after c ms) a b y fits-after fits-before (rw (word-is, marks-are) at v)
 
 pub tried : (c : Code) (ws ms a z : List ℕ) (x : ℕ) → Verdict c ws ms a z x → Tried c ws ms a z x
 tried c ws ms a z x v = (λ _. v, λ d. go x v d)
@@ -151,15 +143,3 @@ tried c ws ms a z x v = (λ _. v, λ d. go x v d)
 
 pub untried : (c : Code) (ws ms a : List ℕ) → Tried c ws ms a a 11
 untried c ws ms a = (λ n. absurd (n refl), λ d. refl)
-
-pub copied : (xs : List ℕ) (m : ℕ) (a z : List ℕ) → m ≡ length xs → length xs ≤ length a → Filled (at xs) m a z → take (length xs) z ≡ xs
-copied xs m a z p l F =
-    tabulate-is (at xs) 0 (length xs) (take (length xs) z) (length-take-le (length xs) z (omega (arith, F .size)))
-    (λ i h. getD-take (length xs) z i 0 h ∙ F .below i (omega arith))
-    ∙ sym (tabulate-is (at xs) 0 (length xs) xs refl (λ i h. refl))
-
-pub front : (n : ℕ) (xs z : List ℕ) → length xs ≡ n → take (length xs) z ≡ xs → take n z ≡ xs
-front n xs z l e = ap (λ m. take m z) (sym l) ∙ e
-
-pub room : (n : ℕ) (xs z : List ℕ) → length xs ≡ n → take (length xs) z ≡ xs → n ≤ length z
-room n xs z l e = omega (arith, length-take n z, ap (λ ys. length ys) (front n xs z l e))

@@ -1,6 +1,7 @@
 -- From the solved equations to the verdict; and a verdict's three cases exclude each other. Assumes nothing.
 --   verdict-none, verdict-one, verdict-more    the equations contradict each other; they have one solution; they have two
 --   one-only, none-only, more-only             each condition gives its number
+--   verdict-same                               where just the same messages fit, a verdict on one word is one on the other
 --   refused, answered                          what decode says
 use mathlib.Core.Path.{_≡_, refl, sym, ap, _∙_}
 use mathlib.Core.Logic.{_≢_}
@@ -49,6 +50,13 @@ module _ (c : Code) (ws ms : List ℕ) where
   more-only a z ys zs x (one f u) g h n = absurd (n (u ys g ∙ sym (u zs h)))
   more-only a z ys zs x (none v p) g h n = absurd (v ys g)
   more-only a z ys zs x (more xs us f k v p) g h n = (refl, p)
+
+-- just the same messages fit ws under ms and vs under ns
+pub verdict-same : (c : Code) (ws ms vs ns a z : List ℕ) (x : ℕ) → ((ys : List ℕ) → fits c ws ms ys ≡ true → fits c vs ns ys ≡ true)
+    → ((ys : List ℕ) → fits c vs ns ys ≡ true → fits c ws ms ys ≡ true) → Verdict c vs ns a z x → Verdict c ws ms a z x
+verdict-same c ws ms vs ns a z x there back (one f u) = one (back z f) (λ ys g. u ys (there ys g))
+verdict-same c ws ms vs ns a z x there back (none n d) = none (λ ys g. n ys (there ys g)) d
+verdict-same c ws ms vs ns a z x there back (more ys zs f g n d) = more ys zs (back ys f) (back zs g) n d
 
 -- refused: nothing changes
 pub refused : (c : Code) (ws ms a w : List ℕ) (x : ℕ) → x ≡ decode-refusal c ws ms (length a) (length w) → x ≢ 0 → Decode-says c ws ms x a a w w

@@ -215,7 +215,7 @@ fn solve_mended(
     solve_within(code, word, marks, message, powers, logs)
 }
 
-// Copies bytes to the front of an array.
+// Copies marks to the front of an array.
 fn copy(from: &[u8], to: &mut [u8; 255])
     requires { ⌜ (length (now from) ≤ 255) × (length (now to) ≡ 255) ⌝ }
     ensures { λ _. ⌜ take (length (now (from .entry))) (now (to .exit)) ≡ now (from .entry) ⌝ }
@@ -227,7 +227,7 @@ fn copy(from: &[u8], to: &mut [u8; 255])
     }
 }
 
-// Local repair of a copy where that brings the losses within the guarantee, elimination else. All of work is left 0.
+// Local repair of a copy of the kept symbols where that brings the losses within the guarantee, elimination else. All of work is left 0.
 fn solve_broken(
     code: Code,
     word: &[u8],
@@ -241,9 +241,9 @@ fn solve_broken(
     ensures { λ x. ⌜ Verdict code (now (word .entry)) (now (marks .entry)) (now (message .entry)) (now (message .exit)) x × (now (work .exit) ≡ replicate (length (now (work .entry))) 0) ⌝ }
 {
     let n = code.n as usize;
-    let mut mended = [0u8; 255];
+    let mut mended = [0u8; 256];
     let mut left = [0u8; 255];
-    copy(word, &mut mended);
+    interpolation::load(word, marks, n, &mut mended);
     copy(marks, &mut left);
     let verdict = solve_mended(
         code,

@@ -99,21 +99,25 @@ fn mul_linear(field: u32, basis: &mut [u8; 256], to: usize, y: u8)
     combine(field, &shifted, basis, to, k);
 }
 
-// The symbol, and 0 where it is lost.
-fn symbol_of(w: u8, mark: u8) -> u8
-    ensures { λ r. ⌜ r ≡ symbol w mark ⌝ }
+// The symbol of place p, 0 where it is lost: only a kept place need be in the word, so the mark is tested first.
+fn symbol_at(word: &[u8], marks: &[u8], p: usize) -> u8
+    requires { ⌜ (p < length (now marks)) × (at (now marks) p ≢ 1 → p < length (now word)) ⌝ }
+    ensures { λ r. ⌜ r ≡ symbol (at (now (word .entry)) p) (at (now (marks .entry)) p) ⌝ }
 {
-    if mark == 1 { 0 } else { w }
+    if marks[p] == 1 {
+        return 0;
+    }
+    word[p]
 }
 
-// The symbols of the word, 0 where one is lost.
-fn load(word: &[u8], marks: &[u8], n: usize, rests: &mut [u8; 256])
+// The symbols of the word, 0 where one is lost. A lost symbol is not read.
+pub fn load(word: &[u8], marks: &[u8], n: usize, rests: &mut [u8; 256])
     requires { ⌜ (length (now rests) ≡ 256) × (n ≤ 255) × (length (now word) ≡ n) × (length (now marks) ≡ n) ⌝ }
     ensures { λ _. ⌜ Written (λ p. symbol (at (now (word .entry)) p) (at (now (marks .entry)) p)) 0 n (now (rests .entry)) (now (rests .exit)) ⌝ }
 {
     let mut p: usize = 0;
     while p < n {
-        rests[p] = symbol_of(word[p], marks[p]);
+        rests[p] = symbol_at(word, marks, p);
         p += 1;
     }
 }
@@ -203,7 +207,7 @@ fn agree(marks: &[u8], rests: &[u8; 256], from: usize, n: usize) -> bool
 {
     let mut i = from;
     while i < n {
-        let s = symbol_of(rests[i], marks[i]);
+        let s = symbol_at(rests, marks, i);
         if s != 0 {
             return false;
         }

@@ -1,23 +1,25 @@
 // Demand 3 about the calls themselves: encode, lose, and get back.
 ghost use mathlib.Core.Path.{_≡_};
-ghost use mathlib.Core.Bool.{cond};
-ghost use lib.Dec.{eqb};
+ghost use mathlib.Core.Bool.{false, cond};
 ghost use Prim.Native.Nat.{_<_};
 ghost use lib.ListN.{length};
+ghost use Rattle.algebra.specs.Sequence.{at};
 ghost use Rattle.code.specs.Code.{code-refusal};
+ghost use Rattle.code.specs.Erasure.{lost};
 ghost use Rattle.code.specs.Repair.{mates, symbols-of};
 ghost use Rattle.promise.specs.RoundTrip.{after-loss, Left, Comes-back, Restored};
 use code::Answer;
 use code::Code;
 
-// What a slot holds: the other byte where it is lost.
-fn held(mark: u8, other: u8, symbol: u8) -> u8
-    ensures { λ x. ⌜ x ≡ cond (eqb mark 1) other symbol ⌝ }
+// What slot p holds: the other byte where it is lost. Only a kept slot need be in the codeword, so the mark is tested first.
+fn held(p: usize, codeword: &[u8], marks: &[u8], other: &[u8]) -> u8
+    requires { ⌜ (p < length (now marks)) × (p < length (now other)) × (lost (now marks) p ≡ false → p < length (now codeword)) ⌝ }
+    ensures { λ x. ⌜ x ≡ cond (lost (now (marks .entry)) p) (at (now (other .entry)) p) (at (now (codeword .entry)) p) ⌝ }
 {
-    if mark == 1 {
-        return other;
+    if marks[p] == 1 {
+        return other[p];
     }
-    symbol
+    codeword[p]
 }
 
 // Writes to word the codeword with the other bytes in its lost slots.
@@ -27,7 +29,7 @@ fn lose(codeword: &[u8], marks: &[u8], other: &[u8], word: &mut [u8])
 {
     let mut p: usize = 0;
     while p < codeword.len() {
-        word[p] = held(marks[p], other[p], codeword[p]);
+        word[p] = held(p, codeword, marks, other);
         p += 1;
     }
 }

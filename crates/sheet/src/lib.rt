@@ -1,13 +1,14 @@
 // The stripe sheet: its reader and its writer.
 ghost use mathlib.Core.Path.{_≡_};
-ghost use mathlib.Core.Bool.{cond};
+ghost use mathlib.Core.Bool.{false};
 ghost use mathlib.Core.List.{_++_};
 ghost use Prim.Native.Nat.{_+_, _*_, _≤_, _<_};
-ghost use lib.Dec.{eqb, ltb};
+ghost use lib.Dec.{ltb};
 ghost use lib.ListN.{length, drop};
 ghost use Rattle.algebra.specs.Sequence.{every, tabulate};
 ghost use Rattle.code.specs.Code.{code-refusal};
-ghost use Rattle.sheet.specs.Sheet.{word, word-at, middle-word, slot-fits, symbol-of, mark-of, code-of, code-in, code-word, kept-word, lost-word, sheet-of};
+ghost use Rattle.code.specs.Erasure.{lost};
+ghost use Rattle.sheet.specs.Sheet.{word, word-at, middle-word, slot-fits, symbol-of, mark-of, code-of, code-in, code-word, slot-word, sheet-of};
 ghost use Rattle.sheet.specs.Calls.{put-word, put-slots, body-refusal, sheet-refusal, write-refusal, no-code, Read-says, Write-says};
 use code::Code;
 
@@ -179,9 +180,9 @@ pub fn read_sheet(sheet: &[u8], word: &mut [u8], marks: &mut [u8]) -> Sheet
     if marks.len() < 255 {
         return refused(5);
     }
-    let x = sheet_refusal(sheet);
-    if x != 0 {
-        return refused(x);
+    let refusal = sheet_refusal(sheet);
+    if refusal != 0 {
+        return refused(refusal);
     }
     let code = code_of(word_at(sheet, 0));
     let n = code.n as usize;
@@ -214,14 +215,16 @@ fn put_word(sheet: &mut [u8], i: usize, w: u32)
     sheet[at + 3] = (w % 256) as u8;
 }
 
-// The word of a slot: a lost one without its symbol.
-fn slot_word(p: u32, symbol: u8, mark: u8) -> u32
-    requires { ⌜ p < 256 ⌝ }
-    ensures { λ w. ⌜ w ≡ cond (eqb mark 1) (lost-word p) (kept-word p symbol) ⌝ }
+// The word of slot p: a lost one without its symbol. Only a kept slot need be in the word, so the mark is tested first.
+fn slot_word(p: u32, word: &[u8], marks: &[u8]) -> u32
+    requires { ⌜ (p < 256) × (p < length (now marks)) × (lost (now marks) p ≡ false → p < length (now word)) ⌝ }
+    ensures { λ w. ⌜ w ≡ slot-word (now (word .entry)) (now (marks .entry)) p ⌝ }
 {
+    let slot = p as usize;
+    let mark = marks[slot];
     match mark {
         1 => 0x3000_0000 + p * 256,
-        _ => 0x2000_0000 + p * 256 + symbol as u32,
+        _ => 0x2000_0000 + p * 256 + word[slot] as u32,
     }
 }
 
@@ -267,7 +270,7 @@ fn write_slots(word: &[u8], marks: &[u8], sheet: &mut [u8])
 {
     let mut p: usize = 0;
     while p < word.len() {
-        let w = slot_word(p as u32, word[p], marks[p]);
+        let w = slot_word(p as u32, word, marks);
         put_word(sheet, p + 1, w);
         p += 1;
     }

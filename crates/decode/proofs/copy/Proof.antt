@@ -4,7 +4,7 @@ use native.Mathlib.Omega.{arith}
 use lib.ListN.{length}
 use Rattle.algebra.specs.Sequence.{at}
 use Rattle.algebra.proofs.Filling.{Filled, filled-none, filled-more}
-use Rattle.decode.proofs.Mending.{copied}
+use Rattle.decode.proofs.Copying.{copied}
 use Rattle.decode.proofs.copy.Statement.{statement}
 use Rattle.decode.proofs.copy.Tie as tie
 

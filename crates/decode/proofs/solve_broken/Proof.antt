@@ -1,58 +1,71 @@
 use mathlib.Core.Path.{_≡_, sym, ap, subst, _∙_}
 use mathlib.Core.Bool.{true}
 use mathlib.Core.List.{List}
-use Prim.Native.Nat.{ℕ}
+use Prim.Native.Nat.{ℕ, _≤_}
 use native.Mathlib.Omega.{arith}
-use lib.ListN.{length, take}
+use lib.ListN.{length, take, replicate, length-replicate}
 use borrow.Author.Needs.{needs}
+use Rattle.code.specs.Code.{code-refusal}
 use Rattle.code.specs.Erasure.{kept-below}
+use Rattle.code.specs.declared.Code.{Code}
 use Rattle.code.proofs.Accepted.{good, n-byte}
 use Rattle.decode.specs.Verdict.{Verdict}
-use Rattle.decode.proofs.Mending.{front, room}
+use Rattle.decode.proofs.Copying.{front, room, loaded-size, loaded, kept-loaded, verdict-loaded}
 use Rattle.decode.proofs.solve_broken.Statement.{statement}
 use Rattle.decode.proofs.solve_broken.Tie as tie
+
+abbrev zeros : List ℕ
+zeros = replicate 256 0
+
+code-room : (c : Code) → code-refusal c ≡ 0 → c .n ≤ length zeros
+code-room c e = omega (arith, n-byte c (good c e), length-replicate {A = ℕ} 256 0)
 
 cast-n : tie.Need-cast-n
 cast-n c = search needs
 
-copy-requires : tie.Need-copy-requires
-copy-requires c κs = let s = c .before .before .before .before .before .before in (omega (arith, n-byte (s .args .code) (good (s .args .code) (s .pre .0)), s .pre .1), search needs)
+load-requires : tie.Need-load-requires
+load-requires c κs =
+    let s = c .before .before .before .before .before .before in
+    (search needs, omega (arith, n-byte (s .args .code) (good (s .args .code) (s .pre .0))), search needs, search needs)
 
-copy-requires-2 : tie.Need-copy-requires-2
-copy-requires-2 c κs = let s = c .before .before .before .before .before .before .before .before in (omega (arith, n-byte (s .args .code) (good (s .args .code) (s .pre .0)), s .pre .2), search needs)
+copy-requires : tie.Need-copy-requires
+copy-requires c κs = let s = c .before .before .before .before .before .before .before .before in (omega (arith, n-byte (s .args .code) (good (s .args .code) (s .pre .0)), s .pre .2), search needs)
 
 array-borrow-prefix-mended : tie.Need-array-borrow-prefix-mended
 array-borrow-prefix-mended c =
     let s = c .before .before .before .before .before .before .before .before .before in
-    room (s .args .code .n) (s .args .word .now) (c .before .before .copy .last .1 .0) (s .pre .1) (c .before .before .copy .ensures)
+    omega (arith, code-room (s .args .code) (s .pre .0), c .before .before .load .ensures .size)
 
 slice-aggregate-solve-mended : tie.Need-slice-aggregate-solve-mended
 slice-aggregate-solve-mended c =
     let s = c .before .before .before .before .before .before .before .before .before .before in
     let a = s .args in
-    sym (ap (λ (xs : List ℕ). length xs) (front (a .code .n) (a .word .now) (c .before .before .before .copy .last .1 .0) (s .pre .1) (c .before .before .before .copy .ensures)) ∙ s .pre .1)
+    let t = c .before .before .before .load in
+    sym (loaded-size _ (a .code .n) zeros (t .last .1 .1 .1 .0) (t .ensures) (code-room (a .code) (s .pre .0)))
 
 array-borrow-prefix-left : tie.Need-array-borrow-prefix-left
 array-borrow-prefix-left c =
     let s = c .before .before .before .before .before .before .before .before .before .before in
-    room (s .args .code .n) (s .args .marks .now) (c .before .copy2 .last .1 .0) (s .pre .2) (c .before .copy2 .ensures)
+    room (s .args .code .n) (s .args .marks .now) (c .before .copy .last .1 .0) (s .pre .2) (c .before .copy .ensures)
 
 slice-aggregate-solve-mended-2 : tie.Need-slice-aggregate-solve-mended-2
 slice-aggregate-solve-mended-2 c =
     let s = c .before .before .before .before .before .before .before .before .before .before .before in
     let a = s .args in
-    sym (ap (λ (xs : List ℕ). length xs) (front (a .code .n) (a .marks .now) (c .before .before .copy2 .last .1 .0) (s .pre .2) (c .before .before .copy2 .ensures)) ∙ s .pre .2)
+    sym (ap (λ (xs : List ℕ). length xs) (front (a .code .n) (a .marks .now) (c .before .before .copy .last .1 .0) (s .pre .2) (c .before .before .copy .ensures)) ∙ s .pre .2)
 
 solve-mended-requires : tie.Need-solve-mended-requires
 solve-mended-requires c κs =
     let s = c .before .before .before .before .before .before .before .before .before .before .before .before in
     let a = s .args in
-    let m = front (a .code .n) (a .word .now) (c .before .before .before .before .before .copy .last .1 .0) (s .pre .1) (c .before .before .before .before .before .copy .ensures) in
-    let l = front (a .code .n) (a .marks .now) (c .before .before .before .copy2 .last .1 .0) (s .pre .2) (c .before .before .before .copy2 .ensures) in (
+    let t = c .before .before .before .before .before .load in
+    let vs = take (a .code .n) (t .last .1 .1 .1 .0) in
+    let l = front (a .code .n) (a .marks .now) (c .before .before .before .copy .last .1 .0) (s .pre .2) (c .before .before .before .copy .ensures) in (
       s .pre .0,
-      ap (λ (xs : List ℕ). length xs) m ∙ s .pre .1,
+      loaded-size _ (a .code .n) zeros (t .last .1 .1 .1 .0) (t .ensures) (code-room (a .code) (s .pre .0)),
       ap (λ (xs : List ℕ). length xs) l ∙ s .pre .2,
-      subst (λ (xs : List ℕ). kept-below (a .code) xs (take (a .code .n) (c .before .before .before .copy2 .last .1 .0)) ≡ true) (sym m) (subst (λ (xs : List ℕ). kept-below (a .code) (a .word .now) xs ≡ true) (sym l) (s .pre .3)),
+      subst (λ (xs : List ℕ). kept-below (a .code) vs xs ≡ true) (sym l)
+          (kept-loaded (a .code) (a .word .now) vs (a .marks .now) (loaded (a .code .n) (a .word .now) (a .marks .now) zeros (t .last .1 .1 .1 .0) (t .ensures)) (s .pre .3)),
       s .pre .4,
       s .pre .6,
       s .pre .7,
@@ -90,11 +103,13 @@ returns-2 : tie.Need-returns-2
 returns-2 c =
     let s = c .before .before .before .before .before .before .before .before .before .before .before .before .before .before .before .before .before .before .before .before .before .before in
     let a = s .args in
-    let m = front (a .code .n) (a .word .now) (c .before .before .before .before .before .before .before .before .before .before .before .before .before .before .before .copy .last .1 .0) (s .pre .1) (c .before .before .before .before .before .before .before .before .before .before .before .before .before .before .before .copy .ensures) in
-    let l = front (a .code .n) (a .marks .now) (c .before .before .before .before .before .before .before .before .before .before .before .before .before .copy2 .last .1 .0) (s .pre .2) (c .before .before .before .before .before .before .before .before .before .before .before .before .before .copy2 .ensures) in
+    let d = c .before .before .before .before .before .before .before .before .before .before .before .before .before .before .before .load in
+    let vs = take (a .code .n) (d .last .1 .1 .1 .0) in
+    let l = front (a .code .n) (a .marks .now) (c .before .before .before .before .before .before .before .before .before .before .before .before .before .copy .last .1 .0) (s .pre .2) (c .before .before .before .before .before .before .before .before .before .before .before .before .before .copy .ensures) in
     let t = c .before .before .before .before .before .before .before .before .before .solve-mended in (
-      subst (λ (xs : List ℕ). Verdict (a .code) (a .word .now) xs (a .message .now) (t .last .1 .1 .1 .0) (t .result)) l
-          (subst (λ (xs : List ℕ). Verdict (a .code) xs (take (a .code .n) (c .before .before .before .before .before .before .before .before .before .before .before .before .before .copy2 .last .1 .0)) (a .message .now) (t .last .1 .1 .1 .0) (t .result)) m (t .ensures .0 (c .before .before .before .before .if1 .left))),
+      verdict-loaded (a .code) (a .word .now) vs (a .marks .now) (loaded (a .code .n) (a .word .now) (a .marks .now) zeros (d .last .1 .1 .1 .0) (d .ensures))
+          (a .message .now) (t .last .1 .1 .1 .0) (t .result)
+          (subst (λ (xs : List ℕ). Verdict (a .code) vs xs (a .message .now) (t .last .1 .1 .1 .0) (t .result)) l (t .ensures .0 (c .before .before .before .before .if1 .left))),
       c .before .before .clear .ensures,
     )
 
@@ -103,8 +118,8 @@ solve-broken-spec =
     tie.close
     (tie.spec
     cast-n
+    load-requires
     copy-requires
-    copy-requires-2
     array-borrow-prefix-mended
     slice-aggregate-solve-mended
     array-borrow-prefix-left

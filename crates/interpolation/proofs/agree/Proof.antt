@@ -17,20 +17,14 @@ abbrev μ-loop : tie.MeasureT-loop
 loop-holds : tie.Need-loop-holds Inv-loop μ-loop
 loop-holds c = (omega arith, λ p h l k. absurd (omega arith))
 
-element-copy-out-symbol-of : tie.Need-element-copy-out-symbol-of Inv-loop μ-loop
-element-copy-out-symbol-of c = omega arith
-
-shared-slice-read-symbol-of : tie.Need-shared-slice-read-symbol-of Inv-loop μ-loop
-shared-slice-read-symbol-of c = omega arith
-
-symbol-of-requires : tie.Need-symbol-of-requires Inv-loop μ-loop
-symbol-of-requires c κs = search needs
+symbol-at-requires : tie.Need-symbol-at-requires Inv-loop μ-loop
+symbol-at-requires c κs = (omega arith, λ _. omega (arith, c .symbol-at-arg .given))
 
 returns : tie.Need-returns Inv-loop μ-loop
 returns c =
-    let l = c .before .before .before .before .before .loop in
-    let a = c .before .before .before .before .before .before .before .args in
-    agreed-not (a .from) (l .i) (a .marks .now) (a .rests .now) (a .n) (omega arith) (omega arith) (λ e. c .if1 .taken (c .before .symbol-of .ensures ∙ e))
+    let l = c .before .before .before .before .loop in
+    let a = c .before .before .before .before .before .before .args in
+    agreed-not (a .from) (l .i) (a .marks .now) (a .rests .now) (a .n) (omega arith) (omega arith) (λ e. c .if1 .taken (c .before .symbol-at .ensures ∙ e))
 
 add-i : tie.Need-add-i Inv-loop μ-loop
 add-i c = omega arith
@@ -40,9 +34,9 @@ loop-less c = omega arith
 
 loop-again : tie.Need-loop-again Inv-loop μ-loop
 loop-again c =
-    let l = c .before .before .before .before .before .loop in
-    let a = c .before .before .before .before .before .before .before .args in
-    (omega arith, agreed-more (a .from) (l .i) (a .marks .now) (a .rests .now) (l .inv .1) (sym (c .before .symbol-of .ensures) ∙ c .if1 .left))
+    let l = c .before .before .before .before .loop in
+    let a = c .before .before .before .before .before .before .args in
+    (omega arith, agreed-more (a .from) (l .i) (a .marks .now) (a .rests .now) (l .inv .1) (sym (c .before .symbol-at .ensures) ∙ c .if1 .left))
 
 returns-2 : tie.Need-returns-2 Inv-loop μ-loop
 returns-2 c =
@@ -57,9 +51,7 @@ agree-spec =
     Inv-loop
     μ-loop
     loop-holds
-    element-copy-out-symbol-of
-    shared-slice-read-symbol-of
-    symbol-of-requires
+    symbol-at-requires
     returns
     add-i
     loop-less

@@ -1,6 +1,5 @@
 use mathlib.Core.Path.{_≡_}
 use Prim.Native.Nat.{_-_, _≤_}
-use borrow.Author.Needs.{needs}
 use native.Mathlib.Omega.{arith}
 use Rattle.algebra.specs.Sequence.{at}
 use Rattle.interpolation.specs.Newton.{Written, symbol}
@@ -19,14 +18,8 @@ loop-holds c =
     let a = c .before .before .args in
     (omega arith, written-none (λ i. symbol (at (a .word .now) i) (at (a .marks .now) i)) 0 (a .rests .now))
 
-shared-slice-read-symbol-of : tie.Need-shared-slice-read-symbol-of Inv-loop μ-loop
-shared-slice-read-symbol-of c = omega arith
-
-shared-slice-read-symbol-of-2 : tie.Need-shared-slice-read-symbol-of-2 Inv-loop μ-loop
-shared-slice-read-symbol-of-2 c = omega arith
-
-symbol-of-requires : tie.Need-symbol-of-requires Inv-loop μ-loop
-symbol-of-requires c κs = search needs
+symbol-at-requires : tie.Need-symbol-at-requires Inv-loop μ-loop
+symbol-at-requires c κs = (omega arith, λ _. omega arith)
 
 element-write-rests : tie.Need-element-write-rests Inv-loop μ-loop
 element-write-rests c = omega arith
@@ -39,12 +32,12 @@ loop-less c = omega arith
 
 loop-again : tie.Need-loop-again Inv-loop μ-loop
 loop-again c =
-    let l = c .before .before .before .before .loop in
-    let s = c .before .before .before .before .before .before .before in
+    let l = c .before .before .loop in
+    let s = c .before .before .before .before .before in
     let a = s .args in (
       omega arith,
-      written-more (λ i. symbol (at (a .word .now) i) (at (a .marks .now) i)) 0 (l .p) (c .symbol-of .result) (a .rests .now) (l .rests) (omega arith)
-          (omega (arith, l .inv .1 .size, s .pre .0)) (c .symbol-of .ensures) (l .inv .1),
+      written-more (λ i. symbol (at (a .word .now) i) (at (a .marks .now) i)) 0 (l .p) (c .symbol-at .result) (a .rests .now) (l .rests) (omega arith)
+          (omega (arith, l .inv .1 .size, s .pre .0)) (c .symbol-at .ensures) (l .inv .1),
     )
 
 returns : tie.Need-returns Inv-loop μ-loop
@@ -60,9 +53,7 @@ load-spec =
     Inv-loop
     μ-loop
     loop-holds
-    shared-slice-read-symbol-of
-    shared-slice-read-symbol-of-2
-    symbol-of-requires
+    symbol-at-requires
     element-write-rests
     add-p
     loop-less

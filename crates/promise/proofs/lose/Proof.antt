@@ -1,4 +1,3 @@
-use borrow.Author.Needs.{needs}
 use mathlib.Core.Path.{_≡_, refl}
 use mathlib.Core.Bool.{cond}
 use mathlib.Core.List.{List}
@@ -27,20 +26,11 @@ loop-holds c =
     let a = c .before .before .before .before .args in
     (omega arith, filled-none (slot (a .codeword .now) (a .marks .now) (a .other .now)) (a .word .now))
 
-shared-slice-read-held : tie.Need-shared-slice-read-held Inv-loop μ-loop
-shared-slice-read-held c = omega (arith, c .before .before .before .before .before .before .before .pre .0)
-
-shared-slice-read-held-2 : tie.Need-shared-slice-read-held-2 Inv-loop μ-loop
-shared-slice-read-held-2 c = omega (arith, c .before .before .before .before .before .before .before .before .pre .1)
-
-shared-slice-read-held-3 : tie.Need-shared-slice-read-held-3 Inv-loop μ-loop
-shared-slice-read-held-3 c = omega arith
-
 held-requires : tie.Need-held-requires Inv-loop μ-loop
-held-requires c κs = search needs
+held-requires c κs = let s = c .before .before .before .before .before .before in (omega (arith, s .pre .0), omega (arith, s .pre .1), λ _. omega arith)
 
 slice-write-word : tie.Need-slice-write-word Inv-loop μ-loop
-slice-write-word c = omega (arith, c .before .before .before .before .before .before .before .before .before .before .pre .2, c .before .before .before .before .before .loop .inv .1 .size)
+slice-write-word c = omega (arith, c .before .before .before .before .before .before .before .pre .2, c .before .before .loop .inv .1 .size)
 
 add-p : tie.Need-add-p Inv-loop μ-loop
 add-p c = omega arith
@@ -49,13 +39,13 @@ loop-less : tie.Need-loop-less Inv-loop μ-loop
 loop-less c = omega arith
 
 loop-again : tie.Need-loop-again Inv-loop μ-loop
-unfolding lost
 loop-again c =
-    let a = c .before .before .before .before .before .before .before .before .before .before .args in
-    let l = c .before .before .before .before .before .loop in (
+    let s = c .before .before .before .before .before .before .before in
+    let a = s .args in
+    let l = c .before .before .loop in (
       omega arith,
       filled-more (slot (a .codeword .now) (a .marks .now) (a .other .now)) (l .p) (c .held .result) (a .word .now) (l .word)
-          (omega (arith, c .before .before .before .before .before .before .before .before .before .before .pre .2, l .inv .1 .size)) (c .held .ensures) (l .inv .1),
+          (omega (arith, s .pre .2, l .inv .1 .size)) (c .held .ensures) (l .inv .1),
     )
 
 same-length : tie.Need-same-length Inv-loop μ-loop
@@ -77,9 +67,6 @@ lose-spec =
     Inv-loop
     μ-loop
     loop-holds
-    shared-slice-read-held
-    shared-slice-read-held-2
-    shared-slice-read-held-3
     held-requires
     slice-write-word
     add-p

@@ -3,8 +3,6 @@ use mathlib.Core.Path.{_≡_, refl, ap, _∙_}
 use Prim.Native.Nat.{_-_, _≤_}
 use native.Mathlib.Omega.{arith}
 use lib.ListN.{length}
-use Rattle.code.specs.Erasure.{lost}
-use Rattle.sheet.specs.Sheet.{slot-word}
 use Rattle.sheet.specs.Calls.{put-slots}
 use Rattle.sheet.proofs.Bytes.{slots-none, slots-more}
 use Rattle.sheet.proofs.write_slots.Statement.{statement}
@@ -24,14 +22,8 @@ loop-holds c =
 cast-slot-word : tie.Need-cast-slot-word Inv-loop μ-loop
 cast-slot-word c = omega arith
 
-shared-slice-read-slot-word : tie.Need-shared-slice-read-slot-word Inv-loop μ-loop
-shared-slice-read-slot-word c = omega arith
-
-shared-slice-read-slot-word-2 : tie.Need-shared-slice-read-slot-word-2 Inv-loop μ-loop
-shared-slice-read-slot-word-2 c = omega arith
-
 slot-word-requires : tie.Need-slot-word-requires Inv-loop μ-loop
-slot-word-requires c κs = omega arith
+slot-word-requires c κs = (omega arith, omega arith, λ _. omega arith)
 
 add-put-word : tie.Need-add-put-word Inv-loop μ-loop
 add-put-word c = omega arith
@@ -46,14 +38,14 @@ loop-less : tie.Need-loop-less Inv-loop μ-loop
 loop-less c = omega arith
 
 loop-again : tie.Need-loop-again Inv-loop μ-loop
-unfolding slot-word lost
 loop-again c =
-    let l = c .before .before .before .before .before .before .before .before .loop in
-    let a = c .before .before .before .before .before .before .before .before .before .before .before .before .args in (
+    let l = c .before .before .before .before .before .before .loop in
+    let a = c .before .before .before .before .before .before .before .before .before .before .args in
+    let t = c .before .before .put-word in
+    let w = c .before .before .before .before .slot-word in (
       omega arith,
-      c .before .before .put-word .kept .0 ∙ l .inv .1,
-      c .before .before .put-word .ensures
-          ∙ slots-more (a .sheet .now) (a .word .now) (a .marks .now) (l .sheet) (l .p) (c .before .before .before .before .slot-word .result) (omega arith) (l .inv .2) (c .before .before .before .before .slot-word .ensures),
+      t .kept .0 ∙ l .inv .1,
+      t .ensures ∙ slots-more (a .sheet .now) (a .word .now) (a .marks .now) (l .sheet) (l .p) (w .result) (omega arith) (l .inv .2) (w .ensures),
     )
 
 same-length : tie.Need-same-length Inv-loop μ-loop
@@ -74,8 +66,6 @@ write-slots-spec =
     μ-loop
     loop-holds
     cast-slot-word
-    shared-slice-read-slot-word
-    shared-slice-read-slot-word-2
     slot-word-requires
     add-put-word
     put-word-requires
