@@ -1,35 +1,79 @@
-"""Prints what the program `classroom` must write for its input, by the reference: crates/classroom/stdout is this text."""
+"""What the program `classroom` answers for an input, by the reference.
 
-import re
+    python3 outside/classroom.py < INPUT     the sheet on standard output, or a sentence on standard error; the exit status
+"""
+
 import sys
 
 import reference as ref
 
-INPUT = 256  # bytes of the input that are read
-NUMBERS = 16  # numbers of the input that are read
+MOST = 4096  # bytes of an input
+SHOWN = 20  # bytes of a word that a sentence shows
+
+
+def shown(word):
+    """The word between quotes: control characters as question marks, and cut."""
+    clean = bytes(b if b >= 32 and b != 127 else ord("?") for b in word[:SHOWN])
+    return b'"' + clean + (b".." if len(word) > SHOWN else b"") + b'"'
+
+
+def refused(sentence):
+    return 1, b"", b"classroom: " + sentence + b"\n"
+
+
+def refused_number(words, i, reason):
+    return refused(b"number %d, " % (i + 1) + shown(words[i]) + b", is refused: " + reason)
 
 
 def line(*words):
-    print("".join(f"{word} " for word in words))
+    return " ".join(map(str, words)) + "\n"
 
 
-def main():
-    found = re.findall(rb"[0-9]+", sys.stdin.buffer.read(INPUT))[:NUMBERS]
-    numbers = [min(int(digits), 255) for digits in found]
-    r, n, k = (numbers + [0, 0, 0])[:3]
-    code, message = ref.Code(0, r, n, k), bytes(numbers[3:])
-    line("powers", *(ref.power(0, ref.GAMMA, e) for e in range(12)))
-    codeword = bytearray(n)
-    refusal = ref.encode(code, message, codeword)
-    if refusal:
-        line("refused", refusal)
-        return
+def sheet(code, message, codeword):
+    lines = [line("powers", *(ref.power(0, ref.GAMMA, e) for e in range(12)))]
     for g in range(ref.groups(code)):
-        line("group", g, "points", *(ref.point(code, p) for p in ref.members(code, g)))
-    line("polynomial", *(f"{s} x^{ref.exponent(code, m)}" for m, s in enumerate(message)))
-    line("codeword", *codeword)
-    for p in range(n):
-        line("slot", p, "mates", *ref.mates(code, p), "weights", *ref.repair_weights(code, p))
+        lines.append(line("group", g, "points", *(ref.point(code, p) for p in ref.members(code, g))))
+    lines.append(line("polynomial", *(f"{s} x^{ref.exponent(code, m)}" for m, s in enumerate(message))))
+    lines.append(line("codeword", *codeword))
+    for p in range(code.n):
+        lines.append(line("slot", p, "mates", *ref.mates(code, p), "weights", *ref.repair_weights(code, p)))
+    return "".join(lines).encode()
 
 
-main()
+REASONS = {
+    2: (0, b"r is 1, 2, 3, 5 or 11 (refusal 2)"),
+    3: (1, b"n is a multiple of r + 1, from r + 1 to 12 (refusal 3)"),
+    4: (2, b"k is from 1 to r * n / (r + 1) (refusal 4)"),
+}
+
+
+def answer(data):
+    """The exit status, standard output and standard error for this input."""
+    if len(data) > MOST:
+        return refused(b"the input is longer than 4,096 bytes")
+    words = data.split()  # at the six characters of white space
+    for i, word in enumerate(words):
+        if any(b not in b"0123456789" for b in word):
+            return refused_number(words, i, b"a number is digits 0 to 9, and white space parts numbers")
+    if len(words) < 3:
+        return refused(b"fewer than three numbers: r, n, k and k message symbols are wanted")
+    r, n, k, *message = (int(word.lstrip(b"0")[:9] or b"0") for word in words)
+    code = ref.Code(0, r, n, k)
+    refusal = ref.code_refusal(code)
+    if refusal:
+        return refused_number(words, *REASONS[refusal])
+    if len(message) != k:
+        return refused(b"%d message symbols are refused: k is %d (refusal 5)" % (len(message), k))
+    for i, symbol in enumerate(message):
+        if symbol >= 13:
+            return refused_number(words, 3 + i, b"a symbol is from 0 to 12 (refusal 6)")
+    codeword = bytearray(n)
+    assert ref.encode(code, bytes(message), codeword) == 0
+    return 0, sheet(code, message, codeword), b""
+
+
+if __name__ == "__main__":
+    status, out, err = answer(sys.stdin.buffer.read())
+    sys.stdout.buffer.write(out)
+    sys.stderr.buffer.write(err)
+    sys.exit(status)

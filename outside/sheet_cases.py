@@ -1,4 +1,7 @@
-"""Makes crates/sheet_cases/stdin and stdout: sheets of every kind, and their reports by the reference."""
+"""Makes crates/sheet_cases/stdin and stdout: sheets of every kind, and their reports by the reference.
+
+    python3 outside/sheet_cases.py SEED FOLDER
+"""
 
 import random
 import sys
@@ -57,8 +60,8 @@ def samples(rng):
 
 
 if __name__ == "__main__":
-    folder = sys.argv[1]
-    rows = list(samples(random.Random(15)))
+    seed, folder = sys.argv[1:]
+    rows = list(samples(random.Random(int(seed))))
     with open(folder + "/stdin", "wb") as f:
         f.write(b"".join(len(row).to_bytes(2, "big") + row for row in rows))
     with open(folder + "/stdout", "w") as f:

@@ -1,0 +1,48 @@
+use borrow.Author.Needs.{needs}
+use mathlib.Core.Path.{_≡_, refl}
+use Prim.Native.Nat.{_-_}
+use native.Mathlib.Omega.{arith}
+use lib.ListN.{length}
+use Rattle.classroom.proofs.lines.put_slots.Statement.{statement}
+use Rattle.classroom.proofs.lines.put_slots.Tie as tie
+
+abbrev Inv-loop : tie.InvT-loop
+Inv-loop text₀ at code n next₀ slot₀ text next slot = length text ≡ length text₀
+
+abbrev μ-loop : tie.MeasureT-loop
+μ-loop text₀ at code n next₀ slot₀ text next slot = code .n - slot
+
+loop-holds : tie.Need-loop-holds Inv-loop μ-loop
+loop-holds c = refl
+
+put-slot-requires : tie.Need-put-slot-requires Inv-loop μ-loop
+put-slot-requires c κs = search needs
+
+add-slot : tie.Need-add-slot Inv-loop μ-loop
+add-slot c = omega arith
+
+loop-less : tie.Need-loop-less Inv-loop μ-loop
+loop-less c = omega arith
+
+loop-again : tie.Need-loop-again Inv-loop μ-loop
+loop-again c = search needs
+
+same-length : tie.Need-same-length Inv-loop μ-loop
+same-length c = search needs
+
+returns : tie.Need-returns Inv-loop μ-loop
+returns c = search needs
+
+pub put-slots-spec : {M : Type 1} → statement M
+put-slots-spec =
+    tie.close
+    (tie.spec
+    Inv-loop
+    μ-loop
+    loop-holds
+    put-slot-requires
+    add-slot
+    loop-less
+    loop-again
+    same-length
+    returns)

@@ -1,0 +1,85 @@
+use mathlib.Core.Path.{_≡_, ap}
+use Prim.Native.Nat.{_≤_}
+use native.Mathlib.Omega.{arith}
+use lib.ListN.{length-take}
+use Rattle.field.specs.Field.{q}
+use Rattle.code.specs.Code.{code-refusal}
+use Rattle.code.specs.declared.Code.{Code}
+use Rattle.code.proofs.Accepted.{good}
+use borrow.Author.Needs.{needs}
+use Rattle.classroom.proofs.put_message.Statement.{statement}
+use Rattle.classroom.proofs.put_message.Tie as tie
+
+-- a code over thirteen has twelve slots at the most
+twelve : (c : Code) → c .field ≡ 0 → code-refusal c ≡ 0 → c .n ≤ 12
+unfolding q
+twelve c f e = omega (arith, good c e .n-most, ap q f)
+
+cast-codeword : tie.Need-cast-codeword
+cast-codeword c = search needs
+
+array-borrow-prefix-codeword : tie.Need-array-borrow-prefix-codeword
+array-borrow-prefix-codeword c = let s = c .before .before .before .before in twelve (s .args .code) (s .pre .1) (s .pre .0)
+
+slice-aggregate-front : tie.Need-slice-aggregate-front
+slice-aggregate-front c = let s = c .before .before .before .before .before in simp (length-take) (omega (arith, twelve (s .args .code) (s .pre .1) (s .pre .0)))
+
+encode-requires : tie.Need-encode-requires
+encode-requires c κs = search needs
+
+refuse-length-requires : tie.Need-refuse-length-requires
+refuse-length-requires c κs = search needs
+
+same-length : tie.Need-same-length
+same-length c = search needs
+
+returns : tie.Need-returns
+returns c = search needs
+
+first-large-requires : tie.Need-first-large-requires
+first-large-requires c κs = search needs
+
+add-refuse : tie.Need-add-refuse
+add-refuse c = search needs
+
+slice-aggregate-refuse : tie.Need-slice-aggregate-refuse
+slice-aggregate-refuse c = search needs
+
+refuse-requires : tie.Need-refuse-requires
+refuse-requires c κs = search needs
+
+same-length-2 : tie.Need-same-length-2
+same-length-2 c = search needs
+
+returns-2 : tie.Need-returns-2
+returns-2 c = search needs
+
+put-sheet-requires : tie.Need-put-sheet-requires
+put-sheet-requires c κs = search needs
+
+same-length-3 : tie.Need-same-length-3
+same-length-3 c = search needs
+
+returns-3 : tie.Need-returns-3
+returns-3 c = search needs
+
+pub put-message-spec : {M : Type 1} → statement M
+put-message-spec =
+    tie.close
+    (tie.spec
+    cast-codeword
+    array-borrow-prefix-codeword
+    slice-aggregate-front
+    encode-requires
+    refuse-length-requires
+    same-length
+    returns
+    first-large-requires
+    add-refuse
+    slice-aggregate-refuse
+    refuse-requires
+    same-length-2
+    returns-2
+    put-sheet-requires
+    same-length-3
+    returns-3)

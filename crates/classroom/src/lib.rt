@@ -1,0 +1,167 @@
+// The sheet that a class works on paper: for r, n, k and k message symbols on standard input, over the field of thirteen.
+ghost use mathlib.Core.Path.{_≡_};
+ghost use Prim.Native.Nat.{_≤_};
+ghost use lib.ListN.{length};
+ghost use Rattle.code.specs.Code.{code-refusal};
+use code::Code;
+use console::text;
+use console::words;
+
+mod lines;
+
+// What stands in front of the text: the sheet (status 0), or a sentence on what is wrong with the input (status 1).
+pub struct Written {
+    pub status: u32,
+    pub len: usize,
+}
+
+// Puts the sentence that refuses number i of the input, from 0.
+fn refuse(text: &mut [u8], input: &[u8], i: usize, reason: &[u8]) -> Written {
+    let mut next = text::put(text, 0, b"number");
+    next = text::put_spaced(text, next, (i % 4096) as u32 + 1);
+    next = text::put(text, next, b", \"");
+    next = text::put_word(text, next, words::bytes_at(input, i));
+    next = text::put(text, next, b"\", is refused: ");
+    let len = text::put(text, next, reason);
+    Written { status: 1, len }
+}
+
+// Puts the sentence of a refusal of questions 2, 3 and 4.
+fn refuse_code(text: &mut [u8], input: &[u8], refusal: u32) -> Written {
+    match refusal {
+        2 => refuse(text, input, 0, b"r is 1, 2, 3, 5 or 11 (refusal 2)"),
+        3 => refuse(
+            text,
+            input,
+            1,
+            b"n is a multiple of r + 1, from r + 1 to 12 (refusal 3)",
+        ),
+        _ => refuse(
+            text,
+            input,
+            2,
+            b"k is from 1 to r * n / (r + 1) (refusal 4)",
+        ),
+    }
+}
+
+// Puts the sentence of a message that has not k symbols.
+fn refuse_length(text: &mut [u8], symbols: usize, k: u32) -> Written {
+    let mut next = text::put_number(text, 0, (symbols % 4096) as u32);
+    next = text::put(text, next, b" message symbols are refused: k is");
+    next = text::put_spaced(text, next, k);
+    let len = text::put(text, next, b" (refusal 5)");
+    Written { status: 1, len }
+}
+
+// The place of the first symbol that is 13 or more, or the message's length.
+fn first_large(message: &[u8]) -> usize
+    ensures { λ x. ⌜ x ≤ length (now (message .entry)) ⌝ }
+{
+    let mut i: usize = 0;
+    while i < message.len() {
+        if message[i] > 12 {
+            return i;
+        }
+        i += 1;
+    }
+    i
+}
+
+// Puts the sheet of an accepted code and a message, or the sentence of the message's refusal.
+fn put_message(text: &mut [u8], input: &[u8], code: Code, message: &[u8]) -> Written
+    requires { ⌜ (code-refusal code ≡ 0) × (code .field ≡ 0) × (length (now message) ≤ 16) ⌝ }
+{
+    let mut codeword = [0u8; 12];
+    let front = &mut codeword[..code.n as usize];
+    let refusal = encode::encode(code, message, front);
+    if refusal == 5 {
+        return refuse_length(text, message.len(), code.k);
+    }
+    if refusal != 0 {
+        let i = first_large(message);
+        return refuse(text, input, 3 + i, b"a symbol is from 0 to 12 (refusal 6)");
+    }
+    let len = lines::put_sheet(text, code, message, front);
+    Written { status: 0, len }
+}
+
+// Puts the sheet of the numbers r, n, k and the message, or the sentence of their refusal.
+fn put_numbers(text: &mut [u8], input: &[u8], numbers: &[u8], count: usize) -> Written
+    requires { ⌜ (3 ≤ count) × (length (now numbers) ≡ 16) ⌝ }
+{
+    let code = Code {
+        field: 0,
+        r: text::wide(numbers[0]),
+        n: text::wide(numbers[1]),
+        k: text::wide(numbers[2]),
+    };
+    let refusal = code::code_refusal(code);
+    if refusal != 0 {
+        return refuse_code(text, input, refusal);
+    }
+    if count > 16 {
+        return refuse_length(text, count - 3, code.k);
+    }
+    put_message(text, input, code, &numbers[3..count])
+}
+
+// Writes the sheet of an input in front of the text, or the sentence on what is wrong with it.
+pub fn classroom(input: &[u8], text: &mut [u8]) -> Written {
+    let count = words::count_words(input);
+    let wrong = words::first_wrong(input, count);
+    if wrong < count {
+        return refuse(
+            text,
+            input,
+            wrong,
+            b"a number is digits 0 to 9, and white space parts numbers",
+        );
+    }
+    if count < 3 {
+        let len = text::put(
+            text,
+            0,
+            b"fewer than three numbers: r, n, k and k message symbols are wanted",
+        );
+        return Written { status: 1, len };
+    }
+    let mut numbers = [0u8; 16];
+    words::read_numbers(input, count, &mut numbers);
+    put_numbers(text, input, &numbers, count)
+}
+
+// The exit status of the program on an input that was read: 0 and the sheet, 1 and a sentence, or 2 where writing fails.
+fn answer(input: &[u8]) -> u32
+    ensures { λ x. ⌜ x ≤ 2 ⌝ }
+{
+    let mut text = [0u8; 4096];
+    let written = classroom(input, &mut text);
+    if written.len >= 4096 {
+        console::complain(b"classroom", b"the sheet is longer than 4,095 bytes");
+        return 2;
+    }
+    if written.status == 0 {
+        return console::write_output(b"classroom", &text, written.len);
+    }
+    console::complain(b"classroom", console::part(&text, 0, written.len));
+    1
+}
+
+// The program's exit status: 0, 1 where the input is refused, or 2 where reading or writing fails.
+#[no_mangle]
+pub extern "C" fn classroom_program() -> u32
+    ensures { λ x. ⌜ x ≤ 2 ⌝ }
+{
+    let mut input = [0u8; 4097];
+    let read = console::read_input(&mut input);
+    if read.failed {
+        return console::unread(b"classroom");
+    }
+    let n = read.len;
+    if n > 4096 {
+        console::complain(b"classroom", b"the input is longer than 4,096 bytes");
+        return 1;
+    }
+    answer(&input[..n])
+}
