@@ -1,4 +1,4 @@
-/* latsefidy.h: a locally repairable erasure code (Tamo and Barg, 2014), proved.
+/* latsefidy.h: a locally repairable erasure code (Tamo and Barg, 2014), proved
  *
  * A code is four numbers: field, r, n, k. A message of k symbols becomes a codeword of n symbols,
  * one for each drive slot, 0 to n - 1. Field 0 has the q = 13 symbols 0 to 12, field 1 the q = 256
@@ -6,22 +6,37 @@
  * repaired from the other r, its mates. Up to the guarantee, n - k - ceil(k / r) + 1, any lost
  * symbols are decoded.
  *
- * Marks are a byte a slot: 0 kept, 1 lost. A lost slot may hold any byte; it is never read.
+ * Marks are a byte a slot: 0 kept, 1 lost. A lost slot may hold any byte; it is never read. A wrong
+ * symbol in a slot that is marked as kept is not covered: decode may refuse it (9), or give another
+ * message.
  *
- * Buffers. Each is a pointer and a length. Pointers are never null, not even for length 0, point
- * to that many readable elements (writable where not const), and the buffers of one call do not
- * overlap. Lengths count elements: bytes, or 32-bit numbers where the buffer holds those. Nothing
- * is read or written outside them, nothing is allocated or kept from call to call, and every call
- * ends.
+ * Buffers. Each is a pointer and a length. Pointers point to that many readable elements (writable
+ * where not const), and the buffers of one call do not overlap. Pointers are never null, not even
+ * for length 0: a buffer is a reference of the library's language, which is never null, and nothing
+ * in the toolchain's contract covers a caller that passes null. For length 0 pass any pointer that
+ * is not null. Lengths count elements: bytes, or 32-bit numbers where the buffer holds those.
+ * Nothing is read or written outside the buffers, nothing is allocated or kept from call to call,
+ * and every call ends.
+ *
+ * Threads. The library has no variables of its own, only constants: any calls may run at once, as
+ * long as no buffer that one of them writes is a buffer of another.
+ *
+ * Alignment. Bytes may stand anywhere; a buffer of 32-bit numbers is aligned as uint32_t is.
+ *
+ * Stack. Report takes about 66 kilobytes, decode and record about 4, the others less than 3. No
+ * other memory is needed but the buffers. (Measured on the compiled code; no proof covers it.)
+ *
+ * Processors. The archive is for x86-64 and uses SSE2 alone, which each of them has. One built for
+ * newer processors (tools/build-for) does not test where it runs: on an older one the program ends
+ * by an illegal instruction.
  *
  * Refusals. A call asks questions; the first "no" ends it with that number, and every buffer is
  * then as it was. (Under 9 and 10 alone decode clears the front of work.) 0 is no refusal. Every
  * call with a code first asks of it, in this order:
- *
- *     1  is field 0 or 1?
- *     2  is r from 1 to 16, and does r + 1 divide q - 1?   (field 0: 1 2 3 5 11; field 1: 2 4 14 16)
- *     3  is n a multiple of r + 1, from r + 1 to q - 1?
- *     4  is k from 1 to r * n / (r + 1)?
+ *   1  is field 0 or 1?
+ *   2  is r from 1 to 16, and does r + 1 divide q - 1? (field 0: 1 2 3 5 11; field 1: 2 4 14 16)
+ *   3  is n a multiple of r + 1, from r + 1 to q - 1?
+ *   4  is k from 1 to r * n / (r + 1)?
  *
  * Where a call answers a value, the refusal is in the high 32 bits and the value in the low; the
  * value of a refused call is 0.
@@ -36,6 +51,11 @@
 extern "C" {
 #endif
 
+#define LATSEFIDY_VERSION_MAJOR 0
+#define LATSEFIDY_VERSION_MINOR 2
+#define LATSEFIDY_VERSION_PATCH 0
+#define LATSEFIDY_VERSION "0.2.0"
+
 #define LATSEFIDY_WEIGHTS 16       /* length of a weights buffer */
 #define LATSEFIDY_STRIP_MOST 4096  /* most symbols of one strip */
 #define LATSEFIDY_WORK_MOST 61455  /* work that is enough for every code */
@@ -45,8 +65,53 @@ extern "C" {
 #define LATSEFIDY_REPORT_MOST 1032 /* most bytes of input that the report judges */
 #define LATSEFIDY_REPORT_TEXT 1032 /* least text buffer of the report */
 
-/* The two halves of an answer with a value. */
+/* The number of each refusal. */
+enum latsefidy_refusals {
+    LATSEFIDY_OK = 0,
+    LATSEFIDY_REFUSAL_FIELD = 1,
+    LATSEFIDY_REFUSAL_R = 2,
+    LATSEFIDY_REFUSAL_N = 3,
+    LATSEFIDY_REFUSAL_K = 4,
+    LATSEFIDY_REFUSAL_LENGTH = 5,
+    LATSEFIDY_REFUSAL_SYMBOL = 6,
+    LATSEFIDY_REFUSAL_SLOT = 7,
+    LATSEFIDY_REFUSAL_MARK = 8,
+    LATSEFIDY_REFUSAL_FOREIGN = 9,
+    LATSEFIDY_REFUSAL_UNDECIDED = 10,
+    LATSEFIDY_REFUSAL_SHEET_LENGTH = 11,
+    LATSEFIDY_REFUSAL_SHEET_START = 12,
+    LATSEFIDY_REFUSAL_SHEET_COUNT = 13,
+    LATSEFIDY_REFUSAL_SHEET_SLOT = 14,
+    LATSEFIDY_REFUSAL_SHEET_END = 15
+};
+
+/* What a refusal says, in English, without its number. */
+static inline const char *latsefidy_refusal_text(uint32_t number) {
+    switch (number) {
+    case LATSEFIDY_OK: return "no refusal";
+    case LATSEFIDY_REFUSAL_FIELD: return "the field is neither 0 nor 1";
+    case LATSEFIDY_REFUSAL_R: return "r is not from 1 to 16, or r + 1 does not divide q - 1";
+    case LATSEFIDY_REFUSAL_N: return "n is no multiple of r + 1 from r + 1 to q - 1";
+    case LATSEFIDY_REFUSAL_K: return "k is not from 1 to r * n / (r + 1)";
+    case LATSEFIDY_REFUSAL_LENGTH: return "a buffer has a wrong length";
+    case LATSEFIDY_REFUSAL_SYMBOL: return "a symbol is q or more";
+    case LATSEFIDY_REFUSAL_SLOT: return "the slot is n or more";
+    case LATSEFIDY_REFUSAL_MARK: return "a mark is neither 0 nor 1";
+    case LATSEFIDY_REFUSAL_FOREIGN: return "no codeword agrees with every kept symbol";
+    case LATSEFIDY_REFUSAL_UNDECIDED: return "more than one codeword agrees with every kept symbol";
+    case LATSEFIDY_REFUSAL_SHEET_LENGTH: return "the sheet's length is no multiple of 4";
+    case LATSEFIDY_REFUSAL_SHEET_START: return "the sheet does not start with a code word";
+    case LATSEFIDY_REFUSAL_SHEET_COUNT: return "the sheet has not n + 2 words";
+    case LATSEFIDY_REFUSAL_SHEET_SLOT: return "a middle word of the sheet is wrong";
+    case LATSEFIDY_REFUSAL_SHEET_END: return "the last word of the sheet is wrong";
+    default: return "no such refusal";
+    }
+}
+
+/* The refusal of an answer with a value: its high half. */
 static inline uint32_t latsefidy_refusal(uint64_t answer) { return (uint32_t)(answer >> 32); }
+
+/* The value of such an answer: its low half. */
 static inline uint32_t latsefidy_value(uint64_t answer) { return (uint32_t)answer; }
 
 /* Encodes a message.
@@ -217,7 +282,7 @@ uint32_t latsefidy_write_sheet(uint32_t field, uint32_t r, uint32_t n, uint32_t 
 
 /* Writes what the report program prints for a sheet: its code, its losses, its message. A refused
  * sheet is no refusal of the call: its text is "refused" and the number. The text has no byte 0
- * at its end. The call takes about 64 kilobytes of stack.
+ * at its end. The call takes about 66 kilobytes of stack.
  *   input     the sheet, of any length; the first 1,032 bytes are judged
  *   text      at least 1,032 bytes; the text is written at its front and the rest is unchanged
  * Returns the refusal (high) and the length of the text (low). Asked:
