@@ -2,11 +2,19 @@
 
 use latsefidy::{read_sheet, report, Code, Outcome, Refusal};
 
-const N: Code = Code { field: 0, r: 2, n: 9, k: 4 };
 const WORD: [u8; 9] = [4, 8, 7, 1, 11, 2, 0, 0, 0];
 
+fn code(field: u32, r: u32, n: u32, k: u32) -> Code {
+    Code::new(field, r, n, k).unwrap()
+}
+
+/// The code N of the classroom sheet.
+fn classroom() -> Code {
+    code(0, 2, 9, 4)
+}
+
 fn encoded(code: Code, message: &[u8]) -> Result<Vec<u8>, Refusal> {
-    let mut codeword = vec![0; code.n as usize];
+    let mut codeword = vec![0; code.n() as usize];
     code.encode(message, &mut codeword).map(|()| codeword)
 }
 
@@ -17,8 +25,8 @@ fn marked(lost: &[usize]) -> [u8; 9] {
 }
 
 fn decoded(word: &[u8], lost: &[usize]) -> Result<Vec<u8>, Refusal> {
-    let (mut message, mut work) = (vec![99; 4], vec![99; N.work_len()]);
-    let answer = N.decode(word, &marked(lost), &mut message, &mut work);
+    let (mut message, mut work) = (vec![99; 4], vec![99; classroom().work_len()]);
+    let answer = classroom().decode(word, &marked(lost), &mut message, &mut work);
     assert!(work.iter().all(|&b| b == 0));
     assert!(answer.is_ok() || message == [99; 4]);
     answer.map(|()| message)
@@ -26,64 +34,69 @@ fn decoded(word: &[u8], lost: &[usize]) -> Result<Vec<u8>, Refusal> {
 
 #[test]
 fn encodes() {
-    assert_eq!(encoded(N, &[1, 1, 1, 1]).unwrap(), WORD);
-    assert_eq!(encoded(N, &[1, 2, 3, 4]).unwrap(), [10, 9, 6, 2, 8, 0, 3, 0, 4]);
-    let wide = Code { field: 0, r: 3, n: 12, k: 7 };
+    assert_eq!(encoded(classroom(), &[1, 1, 1, 1]).unwrap(), WORD);
+    assert_eq!(encoded(classroom(), &[1, 2, 3, 4]).unwrap(), [10, 9, 6, 2, 8, 0, 3, 0, 4]);
+    let wide = code(0, 3, 12, 7);
     assert_eq!(encoded(wide, &[1, 2, 3, 4, 5, 6, 7]).unwrap(), [2, 7, 1, 12, 12, 4, 9, 6, 1, 0, 2, 8]);
-    let bytes = Code { field: 1, r: 2, n: 9, k: 5 };
+    let bytes = code(1, 2, 9, 5);
     assert_eq!(encoded(bytes, &[1, 2, 3, 4, 255]).unwrap(), [251, 51, 53, 108, 244, 176, 97, 1, 125]);
-    assert_eq!(encoded(N, &[1, 2, 3]), Err(Refusal(5)));
-    assert_eq!(encoded(N, &[1, 2, 3, 13]), Err(Refusal(6)));
+    assert_eq!(encoded(classroom(), &[1, 2, 3]), Err(Refusal::Length));
+    assert_eq!(encoded(classroom(), &[1, 2, 3, 13]), Err(Refusal::Symbol));
 }
 
 #[test]
 fn repairs() {
-    assert_eq!(N.repair(0, &[8, 7]), Ok(4));
-    assert_eq!(Code { field: 0, r: 2, n: 3, k: 1 }.repair(0, &[5, 7]), Ok(0));
-    let bytes = Code { field: 1, r: 4, n: 10, k: 3 };
+    assert_eq!(classroom().repair(0, &[8, 7]), Ok(4));
+    assert_eq!(code(0, 2, 3, 1).repair(0, &[5, 7]), Ok(0));
+    let bytes = code(1, 4, 10, 3);
     assert_eq!(bytes.weights(7).unwrap()[..5], [146, 221, 10, 68, 0]);
     assert_eq!(bytes.repair(7, &[10, 200, 30, 140]), Ok(246));
-    assert_eq!(N.repair(9, &[13, 13]), Err(Refusal(7)));
-    assert_eq!(N.repair(8, &[13, 13]), Err(Refusal(6)));
+    assert_eq!(classroom().repair(9, &[13, 13]), Err(Refusal::Slot));
+    assert_eq!(classroom().repair(8, &[13, 13]), Err(Refusal::Symbol));
 }
 
 #[test]
 fn decodes() {
     assert_eq!(decoded(&WORD, &[0, 1, 2, 3]).unwrap(), [1; 4]);
     assert_eq!(decoded(&WORD, &[2, 5, 6, 7, 8]).unwrap(), [1; 4]);
-    assert_eq!(decoded(&WORD, &[4, 5, 6, 7, 8]), Err(Refusal(10)));
-    assert_eq!(decoded(&WORD, &[0, 1, 2, 3, 4, 5, 6, 7, 8]), Err(Refusal(10)));
-    assert_eq!(decoded(&[4, 8, 7, 1, 11, 2, 0, 0, 1], &[]), Err(Refusal(9)));
+    assert_eq!(decoded(&WORD, &[4, 5, 6, 7, 8]), Err(Refusal::Undecided));
+    assert_eq!(decoded(&WORD, &[0, 1, 2, 3, 4, 5, 6, 7, 8]), Err(Refusal::Undecided));
+    assert_eq!(decoded(&[4, 8, 7, 1, 11, 2, 0, 0, 1], &[]), Err(Refusal::Foreign));
 }
 
 #[test]
 fn grades_and_records() {
-    assert_eq!(N.grade(&marked(&[])), Ok(0));
-    assert_eq!(N.grade(&marked(&[0, 3, 6])), Ok(1));
-    assert_eq!(N.grade(&marked(&[0, 1, 2, 3])), Ok(2));
-    assert_eq!(N.grade(&marked(&[2, 5, 6, 7, 8])), Ok(3));
-    let (mut message, mut work) = ([0; 4], vec![0; N.work_len()]);
-    let record = N.record(&WORD, &marked(&[2, 5, 6, 7, 8]), &mut message, &mut work).unwrap();
-    assert_eq!((record.code, record.lost, record.sure, record.grade, record.first), (N, 5, 4, 3, 2));
+    assert_eq!(classroom().grade(&marked(&[])), Ok(0));
+    assert_eq!(classroom().grade(&marked(&[0, 3, 6])), Ok(1));
+    assert_eq!(classroom().grade(&marked(&[0, 1, 2, 3])), Ok(2));
+    assert_eq!(classroom().grade(&marked(&[2, 5, 6, 7, 8])), Ok(3));
+    let (mut message, mut work) = ([0; 4], vec![0; classroom().work_len()]);
+    let record = classroom().record(&WORD, &marked(&[2, 5, 6, 7, 8]), &mut message, &mut work).unwrap();
+    assert_eq!((record.code, record.lost, record.sure, record.grade, record.first), (classroom(), 5, 4, 3, Some(2)));
     assert_eq!((record.outcome, message), (Outcome::Decided, [1; 4]));
-    let record = N.record(&WORD, &[1; 9], &mut message, &mut work).unwrap();
-    assert_eq!(record.outcome, Outcome::Undecided);
+    let record = classroom().record(&WORD, &[1; 9], &mut message, &mut work).unwrap();
+    assert_eq!((record.outcome, record.first), (Outcome::Undecided, Some(0)));
+    let foreign = [4, 8, 7, 1, 11, 2, 0, 0, 1];
+    let record = classroom().record(&foreign, &[0; 9], &mut message, &mut work).unwrap();
+    assert_eq!((record.outcome, record.first, message), (Outcome::Foreign, None, [1; 4]));
+    let record = classroom().record(&WORD, &marked(&[0, 3, 6]), &mut message, &mut work).unwrap();
+    assert_eq!((record.lost, record.grade, record.first), (3, 1, None));
 }
 
 #[test]
 fn works_by_groups() {
-    assert_eq!(N.view(4, &WORD).unwrap(), [1, 11, 2]);
+    assert_eq!(classroom().view(4, &WORD).unwrap(), [1, 11, 2]);
     let (mut word, mut marks) = ([99, 8, 7, 1, 99, 2, 99, 99, 0], marked(&[0, 4, 6, 7]));
-    assert_eq!(N.local_pass(&mut word, &mut marks), Ok(2));
+    assert_eq!(classroom().local_pass(&mut word, &mut marks), Ok(2));
     assert_eq!((word, marks), ([4, 8, 7, 1, 11, 2, 99, 99, 0], marked(&[6, 7])));
     let mut strip = [0; 2];
-    N.rebuild(0, &[8, 9, 7, 6], &mut strip).unwrap();
+    classroom().rebuild(0, &[8, 9, 7, 6], &mut strip).unwrap();
     assert_eq!(strip, [4, 10]);
 }
 
 #[test]
 fn refuses_codes() {
-    let refusal = |field, r, n, k| Code { field, r, n, k }.weights(0).err().map(|Refusal(number)| number);
+    let refusal = |field, r, n, k| Code::new(field, r, n, k).err().map(Refusal::number);
     assert_eq!(refusal(2, 2, 9, 4), Some(1));
     assert_eq!((refusal(0, 4, 10, 4), refusal(1, 4, 10, 4)), (Some(2), None));
     assert_eq!((refusal(0, 2, 12, 4), refusal(0, 2, 10, 4), refusal(0, 2, 15, 4)), (None, Some(3), Some(3)));
@@ -95,15 +108,15 @@ fn refuses_codes() {
 fn reads_and_writes_sheets() {
     let sheet = [0x10, 2, 3, 1, 0x20, 0, 0, 5, 0x30, 0, 1, 0, 0x20, 0, 2, 5, 0x40, 0, 0, 3];
     let (mut word, mut marks, mut text) = ([9; 255], [9; 255], [0; 1032]);
-    let code = read_sheet(&sheet, &mut word, &mut marks).unwrap();
-    assert_eq!(code, Code { field: 0, r: 2, n: 3, k: 1 });
+    let read = read_sheet(&sheet, &mut word, &mut marks).unwrap();
+    assert_eq!(read, code(0, 2, 3, 1));
     assert_eq!((&word[..4], &marks[..4]), (&[5, 0, 5, 9][..], &[0, 1, 0, 9][..]));
     let mut written = [0; 20];
-    code.write_sheet(&word[..3], &marks[..3], &mut written).unwrap();
+    read.write_sheet(&word[..3], &marks[..3], &mut written).unwrap();
     assert_eq!(written, sheet);
     let length = report(&sheet, &mut text).unwrap();
     assert_eq!(&text[..length], b"code 0 2 3 1\nlost 1 sure 2 grade 1 first 255\nmessage 5\n");
-    assert_eq!(read_sheet(&[], &mut word, &mut marks), Err(Refusal(12)));
-    assert_eq!(read_sheet(&[0; 5], &mut word, &mut marks), Err(Refusal(11)));
-    assert_eq!(report(&sheet, &mut text[..1031]), Err(Refusal(5)));
+    assert_eq!(read_sheet(&[], &mut word, &mut marks), Err(Refusal::SheetStart));
+    assert_eq!(read_sheet(&[0; 5], &mut word, &mut marks), Err(Refusal::SheetLength));
+    assert_eq!(report(&sheet, &mut text[..1031]), Err(Refusal::Length));
 }

@@ -1,0 +1,226 @@
+//! The calls with a code.
+
+use crate::raw;
+use crate::refusal::{accepted, value, Refusal};
+use crate::{Code, Record, WEIGHTS};
+
+// SAFETY, for every call below: a slice is a valid pointer, never null, with its length, and Rust's
+// borrows keep a mutable slice apart from the others. The library has no other condition.
+impl Code {
+    /// Writes the n symbols of the message's codeword. The message has k symbols.
+    ///
+    /// ```
+    /// use latsefidy::{Code, Refusal};
+    ///
+    /// let code = Code::new(0, 2, 9, 4)?;
+    /// let mut codeword = [0; 9];
+    /// code.encode(&[1, 2, 3, 4], &mut codeword)?;
+    /// assert_eq!(codeword, [10, 9, 6, 2, 8, 0, 3, 0, 4]);
+    /// assert_eq!(code.encode(&[1, 2, 3], &mut codeword), Err(Refusal::Length));
+    /// assert_eq!(code.encode(&[1, 2, 3, 13], &mut codeword), Err(Refusal::Symbol));
+    /// # Ok::<(), Refusal>(())
+    /// ```
+    pub fn encode(self, message: &[u8], codeword: &mut [u8]) -> Result<(), Refusal> {
+        let Code { field, r, n, k } = self;
+        let (to, len) = (codeword.as_mut_ptr(), codeword.len());
+        accepted(unsafe { raw::latsefidy_encode(field, r, n, k, message.as_ptr(), message.len(), to, len) })
+    }
+
+    /// The r repair weights of a slot, in slot order of its mates, and then zeros: the slot's symbol
+    /// is the sum of weight times mate.
+    ///
+    /// ```
+    /// let code = latsefidy::Code::new(1, 4, 10, 3)?;
+    /// assert_eq!(code.weights(7)?, [146, 221, 10, 68, 0, 0, 0, 0, 0, 0, 0, 0, 0, 0, 0, 0]);
+    /// # Ok::<(), latsefidy::Refusal>(())
+    /// ```
+    pub fn weights(self, slot: u32) -> Result<[u8; WEIGHTS], Refusal> {
+        let Code { field, r, n, k } = self;
+        let mut weights = [0; WEIGHTS];
+        accepted(unsafe { raw::latsefidy_weights(field, r, n, k, slot, weights.as_mut_ptr(), WEIGHTS) })?;
+        Ok(weights)
+    }
+
+    /// The slot's symbol from its r mates, in slot order.
+    ///
+    /// ```
+    /// let code = latsefidy::Code::new(0, 2, 9, 4)?;
+    /// assert_eq!(code.repair(0, &[8, 7])?, 4); // the mates of slot 0 are slots 1 and 2
+    /// # Ok::<(), latsefidy::Refusal>(())
+    /// ```
+    pub fn repair(self, slot: u32, mates: &[u8]) -> Result<u8, Refusal> {
+        let Code { field, r, n, k } = self;
+        let symbol = value(unsafe { raw::latsefidy_repair(field, r, n, k, slot, mates.as_ptr(), mates.len()) })?;
+        Ok(symbol as u8)
+    }
+
+    /// Rebuilds a strip of the slot, 1 to [`STRIP_MOST`](crate::STRIP_MOST) symbols, from the r
+    /// mates' strips, end to end in slot order.
+    ///
+    /// ```
+    /// let code = latsefidy::Code::new(1, 4, 10, 3)?;
+    /// let strips = [10, 0, 1, 200, 0, 2, 30, 0, 3, 140, 0, 4];
+    /// let mut out = [0; 3];
+    /// code.rebuild(7, &strips, &mut out)?;
+    /// assert_eq!(out, [246, 0, 38]);
+    /// # Ok::<(), latsefidy::Refusal>(())
+    /// ```
+    pub fn rebuild(self, slot: u32, strips: &[u8], out: &mut [u8]) -> Result<(), Refusal> {
+        let Code { field, r, n, k } = self;
+        let (to, len) = (out.as_mut_ptr(), out.len());
+        accepted(unsafe { raw::latsefidy_rebuild(field, r, n, k, slot, strips.as_ptr(), strips.len(), to, len) })
+    }
+
+    /// The part of the word that is the slot's whole group.
+    ///
+    /// ```
+    /// let code = latsefidy::Code::new(0, 2, 9, 4)?;
+    /// assert_eq!(code.view(4, &[4, 8, 7, 1, 11, 2, 0, 0, 0])?, [1, 11, 2]);
+    /// # Ok::<(), latsefidy::Refusal>(())
+    /// ```
+    pub fn view(self, slot: u32, word: &[u8]) -> Result<&[u8], Refusal> {
+        let Code { field, r, n, k } = self;
+        let first = value(unsafe { raw::latsefidy_view(field, r, n, k, slot, word.as_ptr(), word.len()) })?;
+        Ok(&word[first as usize..][..r as usize + 1])
+    }
+
+    /// Repairs the lost symbol of each group with exactly one loss, and sets its mark to 0; answers
+    /// how many groups. All else stays.
+    ///
+    /// ```
+    /// let code = latsefidy::Code::new(0, 2, 9, 4)?;
+    /// let mut word = [4, 8, 0, 1, 11, 2, 0, 0, 0];
+    /// let mut marks = [0, 0, 1, 0, 0, 0, 0, 0, 0];
+    /// assert_eq!(code.local_pass(&mut word, &mut marks)?, 1);
+    /// assert_eq!((word, marks), ([4, 8, 7, 1, 11, 2, 0, 0, 0], [0; 9]));
+    /// # Ok::<(), latsefidy::Refusal>(())
+    /// ```
+    pub fn local_pass(self, word: &mut [u8], marks: &mut [u8]) -> Result<u32, Refusal> {
+        let Code { field, r, n, k } = self;
+        let (at, len) = (word.as_mut_ptr(), word.len());
+        value(unsafe { raw::latsefidy_local_pass(field, r, n, k, at, len, marks.as_mut_ptr(), marks.len()) })
+    }
+
+    /// Writes the message of the one codeword that agrees with every kept symbol: refusal 9 if none
+    /// does, 10 if more than one does. Work has at least [`work_len`](Code::work_len) bytes; once
+    /// the other questions are passed that many of them are 0 at the end, also under 9 and 10.
+    ///
+    /// A kept symbol is believed. A wrong one that is not marked can decode to another message.
+    ///
+    /// ```
+    /// use latsefidy::{Code, Refusal};
+    ///
+    /// let code = Code::new(0, 2, 9, 4)?;
+    /// let word = [4, 8, 7, 1, 11, 2, 0, 0, 0];
+    /// let (mut message, mut work) = ([0; 4], [0; 45]);
+    /// code.decode(&word, &[1, 1, 1, 1, 0, 0, 0, 0, 0], &mut message, &mut work)?;
+    /// assert_eq!(message, [1, 1, 1, 1]);
+    /// let answer = code.decode(&word, &[0, 0, 0, 0, 1, 1, 1, 1, 1], &mut message, &mut work);
+    /// assert_eq!(answer, Err(Refusal::Undecided));
+    /// let answer = code.decode(&[4, 8, 7, 1, 11, 2, 0, 0, 1], &[0; 9], &mut message, &mut work);
+    /// assert_eq!(answer, Err(Refusal::Foreign));
+    /// # Ok::<(), Refusal>(())
+    /// ```
+    pub fn decode(self, word: &[u8], marks: &[u8], message: &mut [u8], work: &mut [u8]) -> Result<(), Refusal> {
+        let Code { field, r, n, k } = self;
+        accepted(unsafe {
+            raw::latsefidy_decode(
+                field,
+                r,
+                n,
+                k,
+                word.as_ptr(),
+                word.len(),
+                marks.as_ptr(),
+                marks.len(),
+                message.as_mut_ptr(),
+                message.len(),
+                work.as_mut_ptr(),
+                work.len(),
+            )
+        })
+    }
+
+    /// The grade of the losses: 0 nothing is lost; else 1 no group has more than one loss; else 2
+    /// the number lost is at most the guarantee; else 3.
+    ///
+    /// ```
+    /// let code = latsefidy::Code::new(0, 2, 9, 4)?;
+    /// assert_eq!(code.grade(&[0, 0, 0, 0, 0, 0, 0, 0, 0])?, 0);
+    /// assert_eq!(code.grade(&[1, 0, 0, 1, 0, 0, 1, 0, 0])?, 1);
+    /// assert_eq!(code.grade(&[1, 1, 1, 1, 0, 0, 0, 0, 0])?, 2);
+    /// assert_eq!(code.grade(&[0, 0, 1, 0, 0, 1, 1, 1, 1])?, 3);
+    /// # Ok::<(), latsefidy::Refusal>(())
+    /// ```
+    pub fn grade(self, marks: &[u8]) -> Result<u32, Refusal> {
+        let Code { field, r, n, k } = self;
+        value(unsafe { raw::latsefidy_grade(field, r, n, k, marks.as_ptr(), marks.len()) })
+    }
+
+    /// Decodes, as [`decode`](Code::decode) does, and answers the stripe's record. 9 and 10 are
+    /// outcomes here and refuse nothing; they leave the message as it was.
+    ///
+    /// ```
+    /// use latsefidy::{Code, Outcome};
+    ///
+    /// let code = Code::new(0, 2, 9, 4)?;
+    /// let (word, marks) = ([4, 8, 7, 1, 11, 2, 0, 0, 0], [0, 0, 1, 0, 0, 1, 1, 1, 1]);
+    /// let (mut message, mut work) = ([0; 4], [0; 45]);
+    /// let record = code.record(&word, &marks, &mut message, &mut work)?;
+    /// assert_eq!((record.lost, record.sure, record.grade), (5, 4, 3));
+    /// assert_eq!(record.first, Some(2)); // slots 6, 7 and 8 are group 2
+    /// assert_eq!((record.outcome, message), (Outcome::Decided, [1, 1, 1, 1]));
+    /// # Ok::<(), latsefidy::Refusal>(())
+    /// ```
+    pub fn record(self, word: &[u8], marks: &[u8], message: &mut [u8], work: &mut [u8]) -> Result<Record, Refusal> {
+        let Code { field, r, n, k } = self;
+        let mut record = [0; raw::RECORD];
+        accepted(unsafe {
+            raw::latsefidy_record(
+                field,
+                r,
+                n,
+                k,
+                word.as_ptr(),
+                word.len(),
+                marks.as_ptr(),
+                marks.len(),
+                message.as_mut_ptr(),
+                message.len(),
+                work.as_mut_ptr(),
+                work.len(),
+                record.as_mut_ptr(),
+                record.len(),
+            )
+        })?;
+        Ok(Record::from_numbers(record))
+    }
+
+    /// Writes the stripe's sheet of 4 * (n + 2) bytes; lost slots go without their symbols.
+    ///
+    /// ```
+    /// let code = latsefidy::Code::new(0, 2, 3, 1)?;
+    /// let mut sheet = [0; 20];
+    /// code.write_sheet(&[5, 99, 5], &[0, 1, 0], &mut sheet)?;
+    /// let words = [0x10020301u32, 0x20000005, 0x30000100, 0x20000205, 0x40000003];
+    /// assert_eq!(sheet, words.map(u32::to_be_bytes).concat()[..]);
+    /// # Ok::<(), latsefidy::Refusal>(())
+    /// ```
+    pub fn write_sheet(self, word: &[u8], marks: &[u8], sheet: &mut [u8]) -> Result<(), Refusal> {
+        let Code { field, r, n, k } = self;
+        accepted(unsafe {
+            raw::latsefidy_write_sheet(
+                field,
+                r,
+                n,
+                k,
+                word.as_ptr(),
+                word.len(),
+                marks.as_ptr(),
+                marks.len(),
+                sheet.as_mut_ptr(),
+                sheet.len(),
+            )
+        })
+    }
+}

@@ -1,0 +1,162 @@
+//! A code: its four numbers, its groups and its guarantee.
+
+use crate::raw;
+use crate::refusal::{accepted, Refusal};
+use crate::WEIGHTS;
+use std::ops::Range;
+
+/// A code that the library accepts: field 0 has thirteen symbols, field 1 has bytes; groups of r + 1
+/// slots; n slots; k message symbols. Its calls are these methods.
+#[derive(Clone, Copy, Debug, PartialEq, Eq, Hash)]
+pub struct Code {
+    pub(crate) field: u32,
+    pub(crate) r: u32,
+    pub(crate) n: u32,
+    pub(crate) k: u32,
+}
+
+impl Code {
+    /// The code of four numbers, if the library accepts them: questions 1 to 4.
+    ///
+    /// ```
+    /// use latsefidy::{Code, Refusal};
+    ///
+    /// assert!(Code::new(0, 2, 9, 6).is_ok());
+    /// assert_eq!(Code::new(2, 2, 9, 4), Err(Refusal::Field));
+    /// assert_eq!(Code::new(0, 4, 10, 4), Err(Refusal::R)); // 5 does not divide 12
+    /// assert!(Code::new(1, 4, 10, 4).is_ok()); // it divides 255
+    /// assert_eq!(Code::new(0, 2, 15, 4), Err(Refusal::N));
+    /// assert_eq!(Code::new(0, 2, 9, 7), Err(Refusal::K));
+    /// ```
+    pub fn new(field: u32, r: u32, n: u32, k: u32) -> Result<Code, Refusal> {
+        let mut weights = [0; WEIGHTS];
+        // SAFETY: the pointer and the length are of one array. Of an accepted code slot 0 is no
+        // refusal, so the answer is about the code alone.
+        accepted(unsafe { raw::latsefidy_weights(field, r, n, k, 0, weights.as_mut_ptr(), WEIGHTS) })?;
+        Ok(Code { field, r, n, k })
+    }
+
+    /// The field: 0 is thirteen, 1 is bytes.
+    ///
+    /// ```
+    /// assert_eq!(latsefidy::Code::new(0, 2, 9, 4)?.field(), 0);
+    /// # Ok::<(), latsefidy::Refusal>(())
+    /// ```
+    pub fn field(self) -> u32 {
+        self.field
+    }
+
+    /// The locality: a lost symbol is repaired from r others.
+    ///
+    /// ```
+    /// assert_eq!(latsefidy::Code::new(0, 2, 9, 4)?.r(), 2);
+    /// # Ok::<(), latsefidy::Refusal>(())
+    /// ```
+    pub fn r(self) -> u32 {
+        self.r
+    }
+
+    /// The length: symbols of a codeword, one for each drive slot.
+    ///
+    /// ```
+    /// assert_eq!(latsefidy::Code::new(0, 2, 9, 4)?.n(), 9);
+    /// # Ok::<(), latsefidy::Refusal>(())
+    /// ```
+    pub fn n(self) -> u32 {
+        self.n
+    }
+
+    /// The dimension: symbols of a message.
+    ///
+    /// ```
+    /// assert_eq!(latsefidy::Code::new(0, 2, 9, 4)?.k(), 4);
+    /// # Ok::<(), latsefidy::Refusal>(())
+    /// ```
+    pub fn k(self) -> u32 {
+        self.k
+    }
+
+    /// The guarantee, n - k - ⌈k/r⌉ + 1: whichever slots are lost, and marked so, up to that many
+    /// [`decode`](Code::decode) gives the message back.
+    ///
+    /// ```
+    /// use latsefidy::Code;
+    ///
+    /// assert_eq!(Code::new(0, 2, 9, 4)?.guarantee(), 4);
+    /// assert_eq!(Code::new(1, 16, 255, 240)?.guarantee(), 1);
+    /// # Ok::<(), latsefidy::Refusal>(())
+    /// ```
+    pub fn guarantee(self) -> u32 {
+        self.n - self.k - self.k.div_ceil(self.r) + 1
+    }
+
+    /// The slots of a group: r + 1.
+    ///
+    /// ```
+    /// assert_eq!(latsefidy::Code::new(0, 2, 9, 4)?.group_size(), 3);
+    /// # Ok::<(), latsefidy::Refusal>(())
+    /// ```
+    pub fn group_size(self) -> u32 {
+        self.r + 1
+    }
+
+    /// The slots of each group, from group 0 on.
+    ///
+    /// ```
+    /// let groups = latsefidy::Code::new(0, 2, 9, 4)?.groups();
+    /// assert_eq!(groups.len(), 3);
+    /// assert_eq!(groups.collect::<Vec<_>>(), [0..3, 3..6, 6..9]);
+    /// # Ok::<(), latsefidy::Refusal>(())
+    /// ```
+    pub fn groups(self) -> impl ExactSizeIterator<Item = Range<u32>> + DoubleEndedIterator + Clone {
+        let size = self.group_size();
+        (0..self.n / size).map(move |group| group * size..(group + 1) * size)
+    }
+
+    /// The group of a slot. A slot of n or more is refused, 7.
+    ///
+    /// ```
+    /// use latsefidy::{Code, Refusal};
+    ///
+    /// let code = Code::new(0, 2, 9, 4)?;
+    /// assert_eq!(code.group_of(4), Ok(1));
+    /// assert_eq!(code.group_of(9), Err(Refusal::Slot));
+    /// # Ok::<(), Refusal>(())
+    /// ```
+    pub fn group_of(self, slot: u32) -> Result<u32, Refusal> {
+        if slot < self.n {
+            Ok(slot / self.group_size())
+        } else {
+            Err(Refusal::Slot)
+        }
+    }
+
+    /// The mates of a slot: the other r slots of its group, in slot order. A slot of n or more is
+    /// refused, 7.
+    ///
+    /// ```
+    /// use latsefidy::{Code, Refusal};
+    ///
+    /// let code = Code::new(0, 2, 9, 4)?;
+    /// assert_eq!(code.mates(4)?.collect::<Vec<_>>(), [3, 5]);
+    /// assert_eq!(code.mates(9).err(), Some(Refusal::Slot));
+    /// # Ok::<(), Refusal>(())
+    /// ```
+    pub fn mates(self, slot: u32) -> Result<impl DoubleEndedIterator<Item = u32> + Clone, Refusal> {
+        let first = self.group_of(slot)? * self.group_size();
+        Ok((first..first + self.group_size()).filter(move |&mate| mate != slot))
+    }
+
+    /// Bytes of work that [`decode`](Code::decode) and [`record`](Code::record) need: n * (k + 1).
+    ///
+    /// ```
+    /// use latsefidy::Code;
+    ///
+    /// assert_eq!(Code::new(0, 2, 9, 4)?.work_len(), 45);
+    /// assert_eq!(Code::new(1, 16, 255, 240)?.work_len(), 61_455); // the most
+    /// # Ok::<(), latsefidy::Refusal>(())
+    /// ```
+    pub fn work_len(self) -> usize {
+        self.n as usize * (self.k as usize + 1)
+    }
+}

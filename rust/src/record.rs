@@ -1,0 +1,51 @@
+//! A stripe's record.
+
+use crate::raw;
+use crate::Code;
+
+/// Whether one codeword agrees with every kept symbol, none, or more than one.
+#[derive(Clone, Copy, Debug, PartialEq, Eq, Hash)]
+pub enum Outcome {
+    /// One does: its message is in the message buffer.
+    Decided,
+    /// None does: refusal 9 of decode.
+    Foreign,
+    /// More than one does: refusal 10 of decode.
+    Undecided,
+}
+
+/// A stripe's record, as [`Code::record`] answers it.
+#[derive(Clone, Copy, Debug, PartialEq, Eq, Hash)]
+pub struct Record {
+    /// The stripe's code.
+    pub code: Code,
+    /// How many slots are lost.
+    pub lost: u32,
+    /// The guarantee: up to that many lost slots are decoded, whichever they are.
+    pub sure: u32,
+    /// 0 nothing is lost; else 1 no group has more than one loss; else 2 the number lost is at most
+    /// the guarantee; else 3.
+    pub grade: u32,
+    /// The first group with two or more losses, if there is one.
+    pub first: Option<u32>,
+    /// What decoding came to.
+    pub outcome: Outcome,
+}
+
+/// What the library answers for the first group where there is none.
+const NO_GROUP: u32 = 255;
+
+impl Record {
+    /// From the nine numbers of an accepted call, whose code is accepted too.
+    pub(crate) fn from_numbers(numbers: [u32; raw::RECORD]) -> Record {
+        let [field, r, n, k, lost, sure, grade, first, outcome] = numbers;
+        let first = (first != NO_GROUP).then_some(first);
+        let outcome = match outcome {
+            0 => Outcome::Decided,
+            9 => Outcome::Foreign,
+            10 => Outcome::Undecided,
+            other => unreachable!("outcome {other}"),
+        };
+        Record { code: Code { field, r, n, k }, lost, sure, grade, first, outcome }
+    }
+}

@@ -1,0 +1,121 @@
+//! What the crate works out of a code's numbers, against the library, over every code there is.
+
+use latsefidy::{Code, Refusal};
+
+/// The number of nonzero symbols of a field.
+fn nonzero(field: u32) -> u32 {
+    [12, 255][field as usize]
+}
+
+/// Questions 1 to 4, from the specification.
+fn refusal(field: u32, r: u32, n: u32, k: u32) -> Option<Refusal> {
+    if field > 1 {
+        Some(Refusal::Field)
+    } else if ![&[1, 2, 3, 5, 11][..], &[2, 4, 14, 16]][field as usize].contains(&r) {
+        Some(Refusal::R)
+    } else if !(r + 1..=nonzero(field)).step_by(r as usize + 1).any(|multiple| multiple == n) {
+        Some(Refusal::N)
+    } else if !(1..=n / (r + 1) * r).contains(&k) {
+        Some(Refusal::K)
+    } else {
+        None
+    }
+}
+
+/// Every code of a field.
+fn codes(field: u32) -> impl Iterator<Item = Code> {
+    let numbers = (1..=16).flat_map(move |r| (1..=nonzero(field)).map(move |n| (r, n)));
+    numbers.flat_map(move |(r, n)| (1..=n).filter_map(move |k| Code::new(field, r, n, k).ok()))
+}
+
+#[test]
+fn new_asks_what_the_specification_asks() {
+    for field in 0..=2 {
+        for r in 0..=18 {
+            for n in (0..=40).chain(250..=260) {
+                for k in (0..=40).chain(235..=245) {
+                    assert_eq!(Code::new(field, r, n, k).err(), refusal(field, r, n, k), "{field} {r} {n} {k}");
+                }
+            }
+        }
+    }
+    let most = u32::MAX;
+    assert_eq!(Code::new(most, 2, 9, 4), Err(Refusal::Field));
+    assert_eq!(Code::new(0, most, 9, 4), Err(Refusal::R));
+    assert_eq!(Code::new(0, 2, most, 4), Err(Refusal::N));
+    assert_eq!(Code::new(0, 2, 9, most), Err(Refusal::K));
+}
+
+#[test]
+fn there_are_as_many_codes_as_the_rules_allow() {
+    assert_eq!(codes(0).count(), 85);
+    assert_eq!(codes(1).count(), 7_310 + 5_304 + 2_142 + 1_920); // r 2, 4, 14, 16
+}
+
+#[test]
+fn getters_give_the_numbers_back() {
+    let code = Code::new(1, 4, 20, 12).unwrap();
+    assert_eq!((code.field(), code.r(), code.n(), code.k()), (1, 4, 20, 12));
+}
+
+#[test]
+fn guarantee_agrees_with_the_record() {
+    for code in codes(0).chain(codes(1)) {
+        let (zeros, mut message) = (vec![0; code.n() as usize], vec![0; code.k() as usize]);
+        let record = code.record(&zeros, &zeros, &mut message, &mut vec![0; code.work_len()]).unwrap();
+        assert_eq!((record.code, record.sure), (code, code.guarantee()));
+    }
+}
+
+#[test]
+fn work_is_just_enough() {
+    for code in codes(0).chain([Code::new(1, 2, 255, 170).unwrap(), Code::new(1, 16, 255, 240).unwrap()]) {
+        let (zeros, mut message) = (vec![0; code.n() as usize], vec![0; code.k() as usize]);
+        let mut work = vec![0; code.work_len()];
+        assert_eq!(code.decode(&zeros, &zeros, &mut message, &mut work), Ok(()));
+        assert_eq!(code.decode(&zeros, &zeros, &mut message, &mut work[1..]), Err(Refusal::Length));
+    }
+}
+
+/// The slots of a slot's group, as the library sees them: a view of the word that holds slot p at p.
+fn viewed(code: Code, slot: u32) -> Vec<u32> {
+    let word: Vec<u8> = (0..code.n() as u8).collect();
+    code.view(slot, &word).unwrap().iter().map(|&p| u32::from(p)).collect()
+}
+
+#[test]
+fn groups_and_mates_agree_with_the_view() {
+    for code in codes(0).chain(codes(1).filter(|c| c.k() == 1)) {
+        let groups: Vec<Vec<u32>> = code.groups().map(|group| group.collect()).collect();
+        assert_eq!(groups.concat(), (0..code.n()).collect::<Vec<_>>());
+        assert_eq!(code.groups().len(), groups.len());
+        for slot in 0..code.n() {
+            let group = viewed(code, slot);
+            assert_eq!(group.len(), code.group_size() as usize);
+            assert_eq!(groups[code.group_of(slot).unwrap() as usize], group);
+            let mates: Vec<u32> = group.into_iter().filter(|&p| p != slot).collect();
+            assert_eq!(code.mates(slot).unwrap().collect::<Vec<_>>(), mates);
+        }
+    }
+}
+
+#[test]
+fn slots_of_n_or_more_are_refused() {
+    for code in codes(0) {
+        for slot in [code.n(), code.n() + 1, u32::MAX] {
+            assert_eq!(code.weights(slot), Err(Refusal::Slot));
+            assert_eq!(code.group_of(slot), Err(Refusal::Slot));
+            assert_eq!(code.mates(slot).err(), Some(Refusal::Slot));
+        }
+    }
+}
+
+#[test]
+fn an_unmarked_wrong_symbol_can_decode_to_another_message() {
+    let code = Code::new(0, 2, 3, 1).unwrap();
+    let (mut word, mut message, mut work) = ([0; 3], [0], [0; 6]);
+    code.encode(&[5], &mut word).unwrap();
+    word[0] = 6;
+    assert_eq!(code.decode(&word, &[0, 1, 1], &mut message, &mut work), Ok(()));
+    assert_eq!(message, [6]);
+}
