@@ -1,10 +1,10 @@
--- `fill_numbers` is safe and ends. Assumes nothing.
+-- `fill_wide` is safe and ends. Assumes nothing.
 use mathlib.Core.Path.{_≡_}
 use borrow.Author.Needs.{needs}
 use Prim.Native.Nat.{_≤_, _-_}
 use lib.ListN.{length}
-use Rattle.stripes.proofs.fill_numbers.Statement.{statement}
-use Rattle.stripes.proofs.fill_numbers.Tie as tie
+use Rattle.vectors.proofs.fill_wide.Statement.{statement}
+use Rattle.vectors.proofs.fill_wide.Tie as tie
 
 abbrev Inv-loop : tie.InvT-loop
 Inv-loop «record» at buffer₀ j₀ buffer j = (j ≤ length buffer₀) × (length buffer ≡ length buffer₀)
@@ -39,8 +39,8 @@ same-length c = search needs
 returns : tie.Need-returns Inv-loop μ-loop
 returns c = search needs
 
-pub fill-numbers-spec : {M : Type 1} → statement M
-fill-numbers-spec =
+pub fill-wide-spec : {M : Type 1} → statement M
+fill-wide-spec =
     tie.close
     (tie.spec
     Inv-loop

@@ -2,8 +2,8 @@
 use borrow.Author.Needs.{needs}
 use Prim.Native.Nat.{_≤_, _-_}
 use lib.ListN.{length}
-use Rattle.stripes.proofs.same.Statement.{statement}
-use Rattle.stripes.proofs.same.Tie as tie
+use Rattle.vectors.proofs.same.Statement.{statement}
+use Rattle.vectors.proofs.same.Tie as tie
 
 abbrev Inv-loop : tie.InvT-loop
 Inv-loop «record» before after buffer j₀ j = j ≤ length buffer

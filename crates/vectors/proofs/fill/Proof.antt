@@ -3,8 +3,8 @@ use mathlib.Core.Path.{_≡_}
 use borrow.Author.Needs.{needs}
 use Prim.Native.Nat.{_≤_, _-_}
 use lib.ListN.{length}
-use Rattle.stripes.proofs.fill.Statement.{statement}
-use Rattle.stripes.proofs.fill.Tie as tie
+use Rattle.vectors.proofs.fill.Statement.{statement}
+use Rattle.vectors.proofs.fill.Tie as tie
 
 abbrev Inv-loop : tie.InvT-loop
 Inv-loop «record» at buffer₀ j₀ buffer j = (j ≤ length buffer₀) × (length buffer ≡ length buffer₀)

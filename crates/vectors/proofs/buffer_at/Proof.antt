@@ -3,8 +3,8 @@ use borrow.Author.Needs.{needs}
 use Prim.Native.Nat.{_≤_, _-_}
 use native.Mathlib.Omega.{arith}
 use lib.ListN.{length}
-use Rattle.stripes.proofs.buffer_at.Statement.{statement}
-use Rattle.stripes.proofs.buffer_at.Tie as tie
+use Rattle.vectors.proofs.buffer_at.Statement.{statement}
+use Rattle.vectors.proofs.buffer_at.Tie as tie
 
 abbrev Inv-loop : tie.InvT-loop
 Inv-loop «record» start i at₀ left₀ at left = left ≤ i

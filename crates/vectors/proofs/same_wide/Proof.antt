@@ -1,9 +1,9 @@
--- `same_numbers` is safe and ends. Assumes nothing.
+-- `same_wide` is safe and ends. Assumes nothing.
 use borrow.Author.Needs.{needs}
 use Prim.Native.Nat.{_≤_, _-_}
 use lib.ListN.{length}
-use Rattle.stripes.proofs.same_numbers.Statement.{statement}
-use Rattle.stripes.proofs.same_numbers.Tie as tie
+use Rattle.vectors.proofs.same_wide.Statement.{statement}
+use Rattle.vectors.proofs.same_wide.Tie as tie
 
 abbrev Inv-loop : tie.InvT-loop
 Inv-loop «record» before after buffer j₀ j = j ≤ length buffer
@@ -38,8 +38,8 @@ loop-again c = search needs
 returns-2 : tie.Need-returns-2 Inv-loop μ-loop
 returns-2 c = search needs
 
-pub same-numbers-spec : {M : Type 1} → statement M
-same-numbers-spec =
+pub same-wide-spec : {M : Type 1} → statement M
+same-wide-spec =
     tie.close
     (tie.spec
     Inv-loop
