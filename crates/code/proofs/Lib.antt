@@ -7,6 +7,7 @@ pub mod Exponents
 pub mod Mates
 pub mod Elements
 pub mod Codewords
+pub mod Verdicts
 pub mod Coefficients
 pub mod Distance
 pub mod Weights

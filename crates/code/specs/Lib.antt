@@ -5,5 +5,6 @@ pub mod Codeword
 pub mod Erasure
 pub mod Repair
 pub mod Decoding
+pub mod Verdict
 pub mod Promise
 pub mod Case

@@ -1,7 +1,2 @@
-pub mod Equations
-pub mod Verdicts
 pub mod Refusals
 pub mod Replies
-pub mod Interpolating
-pub mod Mending
-pub mod Copying

@@ -22,7 +22,7 @@ use Rattle.code.specs.declared.Code.{Code}
 use Rattle.code.proofs.Questions.{ask-no, ask-yes, or-ask-stop, or-ask-on, or-ask-passed, and-no-left, and-no-right, and-yes}
 use Rattle.code.proofs.Accepted.{good, asked, n-byte}
 use Rattle.code.proofs.Exponents.{k-below}
-use Rattle.decode.specs.Verdict.{used, decode-refusal}
+use Rattle.decode.specs.Decode.{used, decode-refusal}
 
 ask-most : (m : ℕ) (b : Bool) (n rest : ℕ) → n ≤ m → rest ≤ m → ask b n rest ≤ m
 unfolding ask

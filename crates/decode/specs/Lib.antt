@@ -1,4 +1,2 @@
-pub mod Verdict
+pub mod Decode
 pub mod Recording
-pub mod Gathering
-pub mod Interpolating

@@ -9,7 +9,8 @@ use Prim.Native.Nat.{ℕ, zero, suc}
 use lib.ListN.{length}
 use Rattle.code.specs.Erasure.{lost-number, guarantee, grade, first-broken}
 use Rattle.code.specs.declared.Code.{Code}
-use Rattle.decode.specs.Verdict.{decode-refusal, Verdict, cleared}
+use Rattle.code.specs.Verdict.{Verdict}
+use Rattle.decode.specs.Decode.{decode-refusal, cleared}
 use Rattle.decode.specs.declared.Outcome.{Outcome}
 use Rattle.decode.specs.declared.Outcome.the-variants.{Decided, Foreign, Undecided}
 use Rattle.decode.specs.declared.StripeRecord.{StripeRecord}

@@ -12,7 +12,7 @@ use Rattle.code.specs.Question.{ask, or-ask}
 use Rattle.code.specs.Code.{code-refusal}
 use Rattle.code.specs.declared.Code.{Code}
 use Rattle.code.proofs.Questions.{ask-no, ask-yes, or-ask-stop, or-ask-on}
-use Rattle.decode.specs.Verdict.{decode-refusal}
+use Rattle.decode.specs.Decode.{decode-refusal}
 use Rattle.decode.specs.Recording.{outcome-number, Numbers, Record-as, Record-says}
 use Rattle.decode.specs.declared.StripeRecord.{StripeRecord}
 use Rattle.decode.specs.declared.Recorded.{Recorded}

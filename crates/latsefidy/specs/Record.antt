@@ -12,7 +12,8 @@ use Rattle.code.specs.Question.{ask, or-ask}
 use Rattle.code.specs.Code.{code-refusal}
 use Rattle.code.specs.Erasure.{lost-number, guarantee, grade, first-broken}
 use Rattle.code.specs.declared.Code.{Code}
-use Rattle.decode.specs.Verdict.{decode-refusal, Verdict, cleared}
+use Rattle.code.specs.Verdict.{Verdict}
+use Rattle.decode.specs.Decode.{decode-refusal, cleared}
 use Rattle.decode.specs.Recording.{outcome-number}
 use Rattle.decode.specs.declared.StripeRecord.{StripeRecord}
 

@@ -8,7 +8,7 @@ ghost use Rattle.repair.specs.Mates.{Repair-says, Rebuild-says};
 ghost use Rattle.groups.specs.View.{view-refusal};
 ghost use Rattle.groups.specs.Pass.{Pass-says};
 ghost use Rattle.losses.specs.Losses.{Grade-says};
-ghost use Rattle.decode.specs.Verdict.{Decode-says};
+ghost use Rattle.decode.specs.Decode.{Decode-says};
 ghost use Rattle.sheet.specs.Calls.{Write-says};
 ghost use Rattle.reporting.specs.Report.{Report-says};
 ghost use Rattle.latsefidy.specs.Pack.{unpacked, first-slot};

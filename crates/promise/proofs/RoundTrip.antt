@@ -36,10 +36,10 @@ use Rattle.encode.specs.Encode.{encode-refusal, Encode-says}
 use Rattle.repair.specs.Mates.{Repair-says}
 use Rattle.repair.specs.Promise.{Repair-restores}
 use Rattle.repair.proofs.Promises.{repair-restores}
-use Rattle.decode.specs.Verdict.{decode-refusal, Decode-says}
+use Rattle.decode.specs.Decode.{decode-refusal, Decode-says}
 use Rattle.decode.proofs.Refusals as refusals
 use Rattle.decode.proofs.Replies.{settled}
-use Rattle.decode.proofs.Verdicts.{one-only}
+use Rattle.code.proofs.Verdicts.{one-only}
 use Rattle.promise.specs.RoundTrip.{after-loss, Handed, Decode-returns, Repair-returns}
 
 encode-passes : (c : Code) (ms : List ℕ) (l : ℕ) → code-refusal c ≡ 0 → is-message c ms ≡ true → l ≡ c .n → encode-refusal c ms l ≡ 0

@@ -19,7 +19,7 @@ use Rattle.code.specs.declared.Code.{Code}
 use Rattle.code.specs.declared.Answer.{Answer}
 use Rattle.encode.specs.Encode.{Encode-says}
 use Rattle.repair.specs.Mates.{Repair-says}
-use Rattle.decode.specs.Verdict.{Decode-says}
+use Rattle.decode.specs.Decode.{Decode-says}
 
 unfoldable pub after-loss : (codeword marks other : List ℕ) → List ℕ
 after-loss cs ks os = tabulate (λ p. cond (lost ks p) (at os p) (at cs p)) (length cs)

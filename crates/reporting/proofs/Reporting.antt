@@ -18,7 +18,7 @@ use Rattle.code.specs.declared.Code.{Code}
 use Rattle.code.specs.declared.Answer.{Answer}
 use Rattle.code.proofs.Accepted.{good, n-byte}
 use Rattle.code.proofs.Exponents.{k-most, work-most}
-use Rattle.decode.specs.Verdict.{decode-refusal}
+use Rattle.decode.specs.Decode.{decode-refusal}
 use Rattle.decode.specs.Recording.{outcome-number, Numbers, Filled, Record-as, Record-says}
 use Rattle.decode.specs.declared.Outcome.{Outcome}
 use Rattle.decode.specs.declared.Outcome.the-variants.{Decided, Foreign, Undecided}

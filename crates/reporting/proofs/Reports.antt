@@ -5,7 +5,7 @@ use mathlib.Core.List.{List, _++_}
 use Prim.Native.Nat.{ℕ}
 use Rattle.code.specs.Erasure.{lost-number, guarantee, grade, first-broken}
 use Rattle.code.specs.declared.Code.{Code}
-use Rattle.decode.specs.Verdict.{Verdict, one, none, more}
+use Rattle.code.specs.Verdict.{Verdict, one, none, more}
 use Rattle.sheet.specs.Sheet.{code-in, marks-in}
 use Rattle.reporting.specs.Text.{code-line, losses-line, message-line}
 use Rattle.reporting.specs.Report.{outcome-line, stripe-lines, stripe-report, refused, stripe}

@@ -16,7 +16,7 @@ use lib.ListN.{length, drop}
 use Rattle.code.specs.Erasure.{lost-number, guarantee, grade, first-broken}
 use Rattle.code.specs.declared.Code.{Code}
 use Rattle.code.specs.declared.Answer.{Answer}
-use Rattle.decode.specs.Verdict.{Verdict}
+use Rattle.code.specs.Verdict.{Verdict}
 use Rattle.sheet.specs.Sheet.{code-in, symbols-in, marks-in}
 use Rattle.sheet.specs.Calls.{sheet-refusal}
 use Rattle.reporting.specs.Text.{refused-line, code-line, losses-line, message-line, Puts}

@@ -2,7 +2,7 @@
 ghost use mathlib.Core.Path.{_≡_};
 ghost use Prim.Native.Nat.{_≤_};
 ghost use lib.ListN.{length};
-ghost use Rattle.decode.specs.Verdict.{decode-refusal};
+ghost use Rattle.decode.specs.Decode.{decode-refusal};
 ghost use Rattle.reporting.specs.Report.{Stripe-says, Text-says, Report-says};
 use code::Answer;
 use code::Code;

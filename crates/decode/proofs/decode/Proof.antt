@@ -4,7 +4,7 @@ use native.Mathlib.Omega.{arith}
 use lib.ListN.{length, replicate}
 use lib.Seq.{length-take-le}
 use Rattle.decode.proofs.Refusals.{passed, room}
-use Rattle.decode.proofs.Verdicts.{refused, answered}
+use Rattle.decode.proofs.Replies.{refused, answered}
 use borrow.Author.Needs.{needs}
 use Rattle.decode.proofs.decode.Statement.{statement}
 use Rattle.decode.proofs.decode.Tie as tie

@@ -1,0 +1,82 @@
+use Rattle.elimination.proofs.Equations.{start, part-room, filled-echelon, filled-below, taken, taken-lost, kept-symbol}
+use borrow.Author.Needs.{needs}
+use Rattle.elimination.proofs.take_slot.Statement.{statement}
+use Rattle.elimination.proofs.take_slot.Tie as tie
+
+shared-slice-read-if1 : tie.Need-shared-slice-read-if1
+shared-slice-read-if1 c = search needs
+
+returns : tie.Need-returns
+returns c = let s = c .before .before .before .before .before in let a = s .args in taken-lost (a .code) (a .p) (a .word .now) (a .marks .now) (a .work .now) (s .pre .5) (c .if1 .taken)
+
+cast-k : tie.Need-cast-k
+cast-k c = search needs
+
+add-t : tie.Need-add-t
+add-t c = search needs
+
+mul-t : tie.Need-mul-t
+mul-t c = search needs
+
+sub-fill-row : tie.Need-sub-fill-row
+sub-fill-row c = search needs
+
+part-fill-row-start : tie.Need-part-fill-row-start
+part-fill-row-start c = search needs
+
+part-fill-row-end : tie.Need-part-fill-row-end
+part-fill-row-end c = search needs
+
+fill-row-requires : tie.Need-fill-row-requires
+unfolding start
+fill-row-requires c κs =
+    let s = c .before .before .before .before .before .before .before in
+    let a = s .args in
+    (s .pre .6, s .pre .7, s .pre .0, s .pre .1, part-room (a .code) (a .work .now) (s .pre .5))
+
+shared-slice-read-insert : tie.Need-shared-slice-read-insert
+shared-slice-read-insert c = search needs
+
+insert-requires : tie.Need-insert-requires
+unfolding start
+insert-requires c κs =
+    let s = c .before .before .before .before .before .before .before .before .before .before .before .before in
+    let a = s .args in
+    let d = c .before .before .before .before .fill-row in (
+      filled-echelon (a .code) (a .p) (a .work .now) (d .last .1 .1 .0) (s .pre .5) (d .ensures),
+      filled-below (a .code) (a .p) (a .work .now) (d .last .1 .1 .0) (s .pre .5) (d .ensures),
+      kept-symbol (a .code) (a .word .now) (a .marks .now) (s .pre .4) (a .p) (s .pre .1) (c .before .before .before .before .before .before .before .if1 .left),
+      s .pre .6,
+      s .pre .7,
+    )
+
+same-length : tie.Need-same-length
+same-length c = search needs
+
+returns-2 : tie.Need-returns-2
+unfolding start
+returns-2 c =
+    let s = c .before .before .before .before .before .before .before .before .before .before .before .before .before .before .before in
+    let a = s .args in
+    let d = c .before .before .before .before .before .before .before .fill-row in
+    let t = c .before .before .insert in
+    taken (a .code) (a .p) (a .work .now) (d .last .1 .1 .0) (s .pre .5) (d .ensures) (a .word .now) (a .marks .now) (t .last .1 .1 .1 .0) (t .result)
+    (c .before .before .before .before .before .before .before .before .before .before .if1 .left) (t .ensures)
+
+pub take-slot-spec : {M : Type 1} → statement M
+take-slot-spec =
+    tie.close
+    (tie.spec
+    shared-slice-read-if1
+    returns
+    cast-k
+    add-t
+    mul-t
+    sub-fill-row
+    part-fill-row-start
+    part-fill-row-end
+    fill-row-requires
+    shared-slice-read-insert
+    insert-requires
+    same-length
+    returns-2)

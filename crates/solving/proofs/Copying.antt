@@ -1,0 +1,73 @@
+-- The copies that local repair works on: the marks, and the word with 0 in its lost places. Assumes nothing.
+--   copied, front, room      the front of a buffer filled with a list's entries is the list, and the buffer is as long
+--   Kept-same                two words have the same kept symbols
+--   loaded-size, loaded      the front of a row that was loaded has n entries, and the word's kept symbols
+--   kept-loaded, verdict-loaded    what asks for the kept symbols only is the same of both words
+use mathlib.Core.Path.{_≡_, refl, sym, ap, _∙_}
+use mathlib.Core.Logic.{_≢_}
+use mathlib.Core.Bool.{true, _||_}
+use mathlib.Core.List.{List}
+use Prim.Native.Nat.{ℕ, _≤_, _<_}
+use native.Mathlib.Decide.{ℕ-discrete}
+use native.Mathlib.Omega.{arith}
+use lib.Dec.{T, eqb, ltb, lt→ltb}
+use lib.ListN.{length, take, length-take}
+use lib.Seq.{length-take-le, getD-take}
+use borrow.Author.Tests.{eq-eqb}
+use Rattle.algebra.specs.Sequence.{at}
+use Rattle.algebra.proofs.Counting.{or-left, or-right}
+use Rattle.algebra.proofs.Filling.{Filled}
+use Rattle.algebra.proofs.Sequence.{so, yes-true, every-intro, tabulate-is}
+use Rattle.field.specs.Field.{q}
+use Rattle.code.specs.Decoding.{fits}
+use Rattle.code.specs.Erasure.{lost, kept-below}
+use Rattle.code.specs.declared.Code.{Code}
+use Rattle.interpolation.specs.Newton.{Written, symbol}
+use Rattle.interpolation.proofs.Rows.{symbol-kept}
+use Rattle.code.specs.Verdict.{Verdict}
+use Rattle.elimination.proofs.Equations.{kept-symbol, Fit, fits-to, fits-of}
+use Rattle.code.proofs.Verdicts.{verdict-same}
+
+-- the marks
+pub copied : (xs : List ℕ) (m : ℕ) (a z : List ℕ) → m ≡ length xs → length xs ≤ length a → Filled (at xs) m a z → take (length xs) z ≡ xs
+copied xs m a z p l F =
+    tabulate-is (at xs) 0 (length xs) (take (length xs) z) (length-take-le (length xs) z (omega (arith, F .size)))
+    (λ i h. getD-take (length xs) z i 0 h ∙ F .below i (omega arith))
+    ∙ sym (tabulate-is (at xs) 0 (length xs) xs refl (λ i h. refl))
+
+pub front : (n : ℕ) (xs z : List ℕ) → length xs ≡ n → take (length xs) z ≡ xs → take n z ≡ xs
+front n xs z l e = ap (λ m. take m z) (sym l) ∙ e
+
+pub room : (n : ℕ) (xs z : List ℕ) → length xs ≡ n → take (length xs) z ≡ xs → n ≤ length z
+room n xs z l e = omega (arith, length-take n z, ap (λ ys. length ys) (front n xs z l e))
+
+-- the word
+abbrev pub Kept-same : (n : ℕ) → (word other marks : List ℕ) → Type 0
+Kept-same n ws vs ms = (p : ℕ) → p < n → at ms p ≢ 1 → at vs p ≡ at ws p
+
+pub loaded-size : (g : ℕ → ℕ) (n : ℕ) (a z : List ℕ) → Written g 0 n a z → n ≤ length a → length (take n z) ≡ n
+loaded-size g n a z W h = length-take-le n z (omega (arith, W .size))
+
+pub loaded : (n : ℕ) (ws ms a z : List ℕ) → Written (λ p. symbol (at ws p) (at ms p)) 0 n a z → Kept-same n ws (take n z) ms
+loaded n ws ms a z W p h k = getD-take n z p 0 h ∙ W .put p (omega arith) h ∙ symbol-kept (at ws p) (at ms p) k
+
+fit-same : (c : Code) (ws vs ms ys : List ℕ) → Kept-same (c .n) ws vs ms → Fit c ws ms ys → Fit c vs ms ys
+fit-same c ws vs ms ys s F = record { vector = F .vector; agree = λ p h k. F .agree p h k ∙ sym (s p h k) }
+
+fits-same : (c : Code) (ws vs ms ys : List ℕ) → Kept-same (c .n) ws vs ms → fits c ws ms ys ≡ true → fits c vs ms ys ≡ true
+fits-same c ws vs ms ys s f = fits-of c vs ms ys (fit-same c ws vs ms ys s (fits-to c ws ms ys f))
+
+module _ (c : Code) (ws vs ms : List ℕ) (s : Kept-same (c .n) ws vs ms) where
+  pub kept-loaded : kept-below c ws ms ≡ true → kept-below c vs ms ≡ true
+  unfolding kept-below lost
+  kept-loaded k =
+      yes-true (kept-below c vs ms) (every-intro (λ p. lost ms p || ltb (at vs p) (q (c .field))) (c .n) (λ p h. go p h (ℕ-discrete (at ms p) 1)))
+    where
+      go : (p : ℕ) → p < c .n → Dec (at ms p ≡ 1) → T (eqb (at ms p) 1 || ltb (at vs p) (q (c .field)))
+      go p h (yes e) = or-left (eqb (at ms p) 1) (ltb (at vs p) (q (c .field))) (so (eq-eqb (at ms p) 1 e))
+      go p h (no n) =
+          or-right (eqb (at ms p) 1) (ltb (at vs p) (q (c .field))) (lt→ltb (at vs p) (q (c .field)) (rw (s p h n) (kept-symbol c ws ms k p h n)))
+
+  pub verdict-loaded : (a z : List ℕ) (x : ℕ) → Verdict c vs ms a z x → Verdict c ws ms a z x
+  verdict-loaded a z x =
+      verdict-same c ws ms vs ms a z x (λ ys. fits-same c ws vs ms ys s) (λ ys. fits-same c vs ws ms ys (λ p h k. sym (s p h k)))

@@ -1,0 +1,3 @@
+pub mod Interpolating
+pub mod Mending
+pub mod Copying
