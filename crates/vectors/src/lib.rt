@@ -67,11 +67,10 @@ fn byte(record: &[u8], at: usize, j: usize) -> u8 {
     record[at + 8 + i]
 }
 
-// The length of the buffer at a place, at most so many.
-fn length_at(record: &[u8], at: usize, most: usize) -> usize
+// A length, at most so many.
+fn at_most(length: usize, most: usize) -> usize
     ensures { λ x. ⌜ x ≤ most ⌝ }
 {
-    let length = number(record, at) as usize;
     if length <= most {
         return length;
     }
@@ -95,7 +94,7 @@ fn wanted(record: &[u8], before: usize, after: usize, j: usize) -> u8 {
     byte(record, before, j)
 }
 
-// Whether a buffer is what it should be after the call.
+// Whether a buffer is what it should be after the call, by what stands at two places.
 fn same(record: &[u8], before: usize, after: usize, buffer: &[u8]) -> bool {
     let mut j: usize = 0;
     while j < buffer.len() {
@@ -138,7 +137,7 @@ fn wanted_number(record: &[u8], before: usize, after: usize, j: usize) -> u32 {
     wide_number(record, before, j)
 }
 
-// Whether a buffer of numbers is what it should be after the call, of those at two places.
+// Whether a buffer of numbers is what it should be after the call, by what stands at two places.
 fn same_wide(record: &[u8], before: usize, after: usize, buffer: &[u32]) -> bool {
     let mut j: usize = 0;
     while j < buffer.len() {
@@ -186,7 +185,7 @@ pub fn length_of(record: &[u8], i: usize, most: usize) -> usize
     ensures { λ x. ⌜ x ≤ most ⌝ }
 {
     if i < narrow(record) {
-        return length_at(record, before_at(record, i), most);
+        return at_most(number(record, before_at(record, i)) as usize, most);
     }
     0
 }
@@ -197,11 +196,7 @@ pub fn numbers_of(record: &[u8], most: usize) -> usize
 {
     let i = narrow(record);
     if i < number(record, 24) as usize {
-        let length = number(record, before_at(record, i)) as usize / 4;
-        if length <= most {
-            return length;
-        }
-        return most;
+        return at_most(number(record, before_at(record, i)) as usize / 4, most);
     }
     0
 }
