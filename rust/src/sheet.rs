@@ -40,7 +40,7 @@ pub fn read_sheet(sheet: &[u8], word: &mut [u8], marks: &mut [u8]) -> Result<Cod
 
 /// Writes the report of a sheet at the front of text, of at least
 /// [`REPORT_TEXT`](crate::REPORT_TEXT) bytes; answers its length. A refused sheet is no refusal of
-/// the call: its text says so. The call takes about 64 kilobytes of stack.
+/// the call: its text says so. The call takes about 66 kilobytes of stack.
 ///
 /// ```
 /// use latsefidy::{report, Refusal, REPORT_TEXT};
