@@ -11,3 +11,10 @@ pub mod Equations
 pub mod Parity
 pub mod Coefficients
 pub mod Newton
+pub mod Zeros
+pub mod Leading
+pub mod Monic
+pub mod Blocks
+pub mod Mixed
+pub mod Triangular
+pub mod Shortened

@@ -28,13 +28,13 @@ module _ (R : Ring) where
   infixl 60 _⊖_
   infixl 70 _⊗_
   -- values and differences of listed coefficients
-  eval-tabulate-nil : (x : El) (l i : ℕ) → eval R (tabulate-from (λ j. 𝟘) l i) x ≡ 𝟘
+  pub eval-tabulate-nil : (x : El) (l i : ℕ) → eval R (tabulate-from (λ j. 𝟘) l i) x ≡ 𝟘
   unfolding eval tabulate-from
   eval-tabulate-nil x zero i = refl
   eval-tabulate-nil x (suc l) i =
       nil-add R (x ⊗ eval R (tabulate-from (λ j. 𝟘) l (suc i)) x) ∙ ap (λ y. x ⊗ y) (eval-tabulate-nil x l (suc i)) ∙ mul-nil R x
 
-  eval-tabulate-add : (f g : ℕ → El) (x : El) (l i : ℕ)
+  pub eval-tabulate-add : (f g : ℕ → El) (x : El) (l i : ℕ)
       → eval R (tabulate-from (λ j. f j ⊕ g j) l i) x ≡ eval R (tabulate-from f l i) x ⊕ eval R (tabulate-from g l i) x
   unfolding eval tabulate-from
   eval-tabulate-add f g x zero i = sym (add-nil 𝟘)
@@ -72,7 +72,7 @@ module _ (R : Ring) where
           let z : a - i ≡ suc (a - suc i) = omega arith in
           nil-add R (x ⊗ y) ∙ ap (λ w. x ⊗ w) (later (omega arith)) ∙ mul-left-comm R x s (pow R x (a - suc i)) ∙ sym (ap (λ d. s ⊗ pow R x d) z)
 
-  diff-tabulate : (f g : ℕ → El) (l i : ℕ) → diff R (tabulate-from f l i) (tabulate-from g l i) ≡ tabulate-from (λ j. f j ⊖ g j) l i
+  pub diff-tabulate : (f g : ℕ → El) (l i : ℕ) → diff R (tabulate-from f l i) (tabulate-from g l i) ≡ tabulate-from (λ j. f j ⊖ g j) l i
   unfolding diff tabulate-from
   diff-tabulate f g zero i = refl
   diff-tabulate f g (suc l) i = ap (λ cs. (f i ⊖ g i) ∷ cs) (diff-tabulate f g l (suc i))

@@ -1,66 +1,124 @@
--- What questions 1 to 4 say of an accepted code, as facts of its numbers. Assumes nothing.
---   Good c    these facts
---   good      an accepted code has them
---   n-byte    n is at most 255
-use mathlib.Core.Path.{_≡_}
+-- What questions 1 to 4 say of an accepted code: its shape is a plain family. Assumes nothing.
+--   asked          a question that is passed, and the questions after it
+--   Good s         the facts behind refusal 0; good: an accepted code's shape has them
+--   placed-of, whole-of, k-of    what follows of places and of k
+--   families       Families of specs/Promise.antt; plain-of is its other name
+use mathlib.Core.Path.{_≡_, refl, sym, ap, _∙_}
 use mathlib.Core.Bool.{Bool, true, false, _&&_}
-use Prim.Native.Nat.{ℕ, zero, suc, _*_, _-_, _%_, _≤_}
+use Prim.Native.Nat.{ℕ, suc, _+_, _*_, _-_, _/_, _%_, _≤_, _<_}
+use native.Mathlib.Nat.{div-add-mod', mod-lt}
 use native.Mathlib.Omega.{arith}
-use lib.Dec.{T, leb, eqb, eqb→eq, leb→le, lit≤}
-use Rattle.algebra.proofs.Sequence.{and-left, and-right}
+use borrow.Author.Tests.{eq-eqb}
+use lib.Arith.{digits-div}
+use lib.Dec.{T, leb, eqb, eqb→eq, leb→le}
+use Rattle.algebra.proofs.Sequence.{so, and-left, and-right}
 use Rattle.field.specs.Field.{q}
-use Rattle.field.proofs.Laws.{q-most}
-use Rattle.code.specs.Question.{ask}
-use Rattle.code.specs.Code.{size, groups, field-known, r-fits, n-fits, k-fits, code-refusal}
 use Rattle.code.specs.declared.Code.{Code}
+use Rattle.code.specs.declared.Shape.{Shape}
+use Rattle.code.specs.Question.{ask}
+use Rattle.code.specs.Shape.{ceiling, size, groups, room, missing, whole, wired}
+use Rattle.code.specs.Family.{single, field-known, r-fits, n-fits, k-fits, code-refusal}
+use Rattle.code.specs.Laws.{Placed, Family, Plain}
+use Rattle.code.specs.Promise.{Families}
+use Rattle.code.proofs.Grouped.{grouped-whole}
 
-pub record Good (c : Code) : Type 0 where
-  pub field-most : c .field ≤ 1
-  pub r-least : 1 ≤ c .r
-  pub r-most : c .r ≤ 16
-  pub size-divides : (q (c .field) - 1) % size c ≡ 0
-  pub n-whole : c .n % size c ≡ 0
-  pub n-least : size c ≤ c .n
-  pub n-most : c .n ≤ q (c .field) - 1
-  pub k-least : 1 ≤ c .k
-  pub k-most : c .k ≤ c .r * groups c
-
--- a question that is passed, and the questions after it
 pub asked : (b : Bool) (m n : ℕ) → ask b (suc m) n ≡ 0 → T b × (n ≡ 0)
 unfolding ask
 asked true m n e = (tt, e)
 asked false m n e = omega arith
 
-pub good : (c : Code) → code-refusal c ≡ 0 → Good c
+pub record Good (s : Shape) : Type 0 where
+  pub field-most : s .field ≤ 1
+  pub r-least : 1 ≤ s .r
+  pub size-most : size s ≤ 17
+  pub size-divides : (q (s .field) - 1) % size s ≡ 0
+  pub n-whole : s .n % size s ≡ 0
+  pub n-least : size s ≤ s .n
+  pub n-most : s .n ≤ q (s .field) - 1
+  pub k-least : 1 ≤ s .k
+  pub k-most : s .k ≤ s .r * groups s
+
+pub good : (c : Code) → code-refusal c ≡ 0 → Good (single c)
 unfolding code-refusal field-known r-fits n-fits k-fits
 good c e =
-    let t₁ = asked (field-known c) 0 (ask (r-fits c) 2 (ask (n-fits c) 3 (ask (k-fits c) 4 0))) e in
-    let t₂ = asked (r-fits c) 1 (ask (n-fits c) 3 (ask (k-fits c) 4 0)) (t₁ .1) in
-    let t₃ = asked (n-fits c) 2 (ask (k-fits c) 4 0) (t₂ .1) in
-    let t₄ = asked (k-fits c) 3 0 (t₃ .1) in
-    let g : ℕ = size c in
-    let w : ℕ = q (c .field) - 1 in
-    let r₁ = leb 1 (c .r) in
-    let r₂ = leb (c .r) 16 in
-    let n₁ = eqb (c .n % g) 0 in
-    let n₂ = leb g (c .n) in
-    let n₃ = leb (c .n) w in
-    let k₁ = leb 1 (c .k) in
-    let k₂ = leb (c .k) (c .r * groups c) in
+    let s = single c in
+    let t₁ = asked (field-known s) 0 (ask (r-fits s) 2 (ask (n-fits s) 3 (ask (k-fits s) 4 0))) e in
+    let t₂ = asked (r-fits s) 1 (ask (n-fits s) 3 (ask (k-fits s) 4 0)) (t₁ .1) in
+    let t₃ = asked (n-fits s) 2 (ask (k-fits s) 4 0) (t₂ .1) in
+    let t₄ = asked (k-fits s) 3 0 (t₃ .1) in
+    let g : ℕ = size s in
+    let w : ℕ = q (s .field) - 1 in
+    let r₁ = leb 1 (s .r) in
+    let r₂ = leb g 17 in
+    let n₁ = eqb (s .n % g) 0 in
+    let n₂ = leb g (s .n) in
+    let n₃ = leb (s .n) w in
+    let k₁ = leb 1 (s .k) in
+    let k₂ = leb (s .k) (s .r * groups s) in
     let rs = and-left (r₁ && r₂) (eqb (w % g) 0) (t₂ .0) in
     let ns = and-right n₁ (n₂ && n₃) (t₃ .0) in
     record {
-      field-most = leb→le (c .field) 1 (t₁ .0);
-      r-least = leb→le 1 (c .r) (and-left r₁ r₂ rs);
-      r-most = leb→le (c .r) 16 (and-right r₁ r₂ rs);
+      field-most = leb→le (s .field) 1 (t₁ .0);
+      r-least = leb→le 1 (s .r) (and-left r₁ r₂ rs);
+      size-most = leb→le g 17 (and-right r₁ r₂ rs);
       size-divides = eqb→eq (w % g) 0 (and-right (r₁ && r₂) (eqb (w % g) 0) (t₂ .0));
-      n-whole = eqb→eq (c .n % g) 0 (and-left n₁ (n₂ && n₃) (t₃ .0));
-      n-least = leb→le g (c .n) (and-left n₂ n₃ ns);
-      n-most = leb→le (c .n) w (and-right n₂ n₃ ns);
-      k-least = leb→le 1 (c .k) (and-left k₁ k₂ (t₄ .0));
-      k-most = leb→le (c .k) (c .r * groups c) (and-right k₁ k₂ (t₄ .0));
+      n-whole = eqb→eq (s .n % g) 0 (and-left n₁ (n₂ && n₃) (t₃ .0));
+      n-least = leb→le g (s .n) (and-left n₂ n₃ ns);
+      n-most = leb→le (s .n) w (and-right n₂ n₃ ns);
+      k-least = leb→le 1 (s .k) (and-left k₁ k₂ (t₄ .0));
+      k-most = leb→le (s .k) (s .r * groups s) (and-right k₁ k₂ (t₄ .0));
     }
 
--- field sizes, and lengths that fit a byte
-pub n-byte : (c : Code) → Good c → c .n ≤ 255
-n-byte c G = omega (arith, G .n-most, q-most (c .field))
+module _ (s : Shape) (G : Good s) where
+  size-more : 1 ≤ size s
+  unfolding size
+  size-more = omega (arith, G .r-least)
+
+  parts : s .n ≡ s .n / size s * size s
+  parts = omega (arith, div-add-mod' (s .n) (size s), G .n-whole)
+
+  pub groups-whole : groups s ≡ s .n / size s
+  unfolding groups ceiling
+  groups-whole =
+      let e : s .n + size s - 1 ≡ s .n / size s * size s + (size s - 1) = omega (arith, parts, size-more) in
+      ap (λ n. n / size s) e ∙ digits-div (s .n / size s) (omega (arith, size-more))
+
+  pub room-whole : room s ≡ s .n
+  unfolding room
+  room-whole = ap (λ n. n * size s) groups-whole ∙ sym parts
+
+  pub whole-of : whole s ≡ true
+  unfolding whole missing
+  whole-of = eq-eqb (room s - s .n) 0 (omega (arith, room-whole))
+
+  pub k-of : s .k + s .tolerance * groups s ≤ s .n
+  unfolding room size
+  k-of = omega (arith, room-whole, G .k-most)
+
+  pub placed-of : 1 ≤ s .tolerance → Placed s
+  placed-of one =
+      record {
+        field-most = G .field-most;
+        r-least = G .r-least;
+        tolerance-least = one;
+        size-most = G .size-most;
+        size-divides = G .size-divides;
+        n-least = omega (arith, G .n-least, size-more);
+        room-most = omega (arith, room-whole, G .n-most);
+        wired-whole = λ _. whole-of;
+      }
+
+pub plain-of : (c : Code) → code-refusal c ≡ 0 → Plain (single c)
+plain-of c e =
+    let s = single c in
+    let G = good c e in
+    record {
+      family = grouped-whole s (placed-of s G (omega arith)) refl (G .k-least) (k-of s G) (whole-of s G);
+      k-most = k-of s G;
+      whole-groups = whole-of s G;
+      second-none = refl;
+    }
+
+pub families : Families
+unfolding Families
+families c e = plain-of c e

@@ -1,97 +1,94 @@
--- Messages, and the symbols of codewords as elements of the field: sums of terms at the points. Assumes nothing.
---   Message-is c xs          == xs has k symbols, all below q
---   message-is, is-message-of
---   length-encoded, at-encoded, symbols-below
---   symbol-of c xs p         == slot p's symbol as an element: symbol-of-is
---   symbol-on-group          on a group it is a polynomial with r coefficients
+-- Messages and the symbols of codewords. Assumes nothing.
+--   Message-is s xs          == xs has k symbols, all below q
+--   message-is, is-message-of, zeros-is
+--   length-encoded, at-encoded, symbol-below, encoded-below
+--   symbols-below            Symbols-below of specs/Promise.antt
+--   value-none               where all basis polynomials are 0 so is the value
 use mathlib.Core.Path.{_≡_, refl, ap, ap₂, _∙_}
 use mathlib.Core.Bool.{true, _&&_}
 use mathlib.Core.List.{List, [], _∷_}
-use Prim.Native.Nat.{ℕ, suc, _<_}
+use Prim.Native.Nat.{ℕ, suc, _+_, _≤_, _<_}
 use native.Mathlib.Omega.{arith}
 use lib.Dec.{T, eqb, eqb→eq, eqb-refl, ltb, ltb→lt}
-use lib.ListN.{length}
+use lib.ListN.{length, replicate, length-replicate}
 use Rattle.algebra.specs.Sequence.{at, all-below}
-use Rattle.algebra.proofs.Sequence.{so, yes-true, and-left, and-right, and-both, length-tabulate, at-tabulate, all-below-intro}
-use Rattle.algebra.proofs.Monomials.{terms}
-use Rattle.algebra.proofs.Locality.{raised, on-group, on-group-is}
+use Rattle.algebra.proofs.Sequence.{so, yes-true, and-left, and-right, and-both, length-tabulate, at-tabulate, at-replicate, all-below-intro}
+use Rattle.algebra.proofs.Ring.{mul-nil}
 use Rattle.field.specs.Field.{q, plus, times}
 use Rattle.field.proofs.Laws.{laws}
-use Rattle.field.proofs.Elem.{Elem, ring-of, el-is, pow-is}
-use Rattle.code.specs.Code.{size, group, point, exponent, basis}
+use Rattle.field.proofs.Elem.{ring-of, zero-below}
+use Rattle.code.specs.declared.Shape.{Shape}
+use Rattle.code.specs.Shape.{point}
+use Rattle.code.specs.Basis.{basis}
 use Rattle.code.specs.Codeword.{is-message, value-from, value, symbol, encoded}
 use Rattle.code.specs.Promise.{Symbols-below}
-use Rattle.code.specs.declared.Code.{Code}
-use Rattle.code.proofs.Accepted.{Good}
-use Rattle.code.proofs.Points.{locator, locator-is, group-constant, locator-power}
-use Rattle.code.proofs.Elements.{els}
 
-pub record Message-is (c : Code) (xs : List ℕ) : Type 0 where
-  pub length-is : length xs ≡ c .k
-  pub below : T (all-below (q (c .field)) xs)
+pub record Message-is (s : Shape) (xs : List ℕ) : Type 0 where
+  pub length-is : length xs ≡ s .k
+  pub below : T (all-below (q (s .field)) xs)
 
-module _ (c : Code) (xs : List ℕ) where
-  pub message-is : is-message c xs ≡ true → Message-is c xs
+module _ (s : Shape) (xs : List ℕ) where
+  pub message-is : is-message s xs ≡ true → Message-is s xs
   unfolding is-message
   message-is e =
-      let a = eqb (length xs) (c .k) in
-      let b = all-below (q (c .field)) xs in
-      record { length-is = eqb→eq (length xs) (c .k) (and-left a b (so e)); below = and-right a b (so e) }
+      let a = eqb (length xs) (s .k) in
+      let b = all-below (q (s .field)) xs in
+      record { length-is = eqb→eq (length xs) (s .k) (and-left a b (so e)); below = and-right a b (so e) }
 
-  pub is-message-of : Message-is c xs → is-message c xs ≡ true
+  pub is-message-of : Message-is s xs → is-message s xs ≡ true
   unfolding is-message
   is-message-of M =
-      let a = eqb (length xs) (c .k) in
-      let b = all-below (q (c .field)) xs in
-      let t : T (eqb (length xs) (c .k)) = rw (M .length-is) (eqb-refl (c .k)) in
+      let a = eqb (length xs) (s .k) in
+      let b = all-below (q (s .field)) xs in
+      let t : T (eqb (length xs) (s .k)) = rw (M .length-is) (eqb-refl (s .k)) in
       yes-true (a && b) (and-both a b t (M .below))
 
-  pub length-encoded : length (encoded c xs) ≡ c .n
+  pub length-encoded : length (encoded s xs) ≡ s .n
   unfolding encoded
-  length-encoded = length-tabulate (symbol c xs) (c .n)
+  length-encoded = length-tabulate (symbol s xs) (s .n)
 
-  pub at-encoded : (p : ℕ) → p < c .n → at (encoded c xs) p ≡ symbol c xs p
+  pub at-encoded : (p : ℕ) → p < s .n → at (encoded s xs) p ≡ symbol s xs p
   unfolding encoded
-  at-encoded p h = at-tabulate (symbol c xs) 0 (c .n) p h
+  at-encoded p h = at-tabulate (symbol s xs) 0 (s .n) p h
 
-pub value-below : (c : Code) (x m : ℕ) (xs : List ℕ) → value-from c x m xs < q (c .field)
+-- the message 0
+pub zeros-is : (s : Shape) → Message-is s (replicate (s .k) 0)
+zeros-is s =
+    record {
+      length-is = length-replicate {A = ℕ} (s .k) 0;
+      below =
+          all-below-intro (q (s .field)) (replicate (s .k) 0)
+          (λ i b. let l : i < s .k = omega (arith, length-replicate {A = ℕ} (s .k) 0) in rw (at-replicate (s .k) 0 i l) (zero-below (s .field)));
+    }
+
+pub value-below : (s : Shape) (x m : ℕ) (xs : List ℕ) → value-from s x m xs < q (s .field)
 unfolding value-from
-value-below c x m [] = omega (arith, laws (c .field) .two-below)
-value-below c x m (s ∷ ss) = laws (c .field) .plus-below (times (c .field) s (basis c m x)) (value-from c x (suc m) ss)
+value-below s x m [] = omega (arith, laws (s .field) .two-below)
+value-below s x m (y ∷ ys) = laws (s .field) .plus-below (times (s .field) y (basis s m x)) (value-from s x (suc m) ys)
 
-pub symbol-below : (c : Code) (xs : List ℕ) (p : ℕ) → symbol c xs p < q (c .field)
+pub symbol-below : (s : Shape) (xs : List ℕ) (p : ℕ) → symbol s xs p < q (s .field)
 unfolding symbol value
-symbol-below c xs p = value-below c (point c p) 0 xs
+symbol-below s xs p = value-below s (point s p) 0 xs
 
-pub encoded-below : (c : Code) (xs : List ℕ) → T (all-below (q (c .field)) (encoded c xs))
-encoded-below c xs =
-    all-below-intro (q (c .field)) (encoded c xs)
-    (λ i b. let l : i < c .n = omega (arith, length-encoded c xs) in rw (at-encoded c xs i l) (symbol-below c xs i))
+pub encoded-below : (s : Shape) (xs : List ℕ) → T (all-below (q (s .field)) (encoded s xs))
+encoded-below s xs =
+    all-below-intro (q (s .field)) (encoded s xs)
+    (λ i b. let l : i < s .n = omega (arith, length-encoded s xs) in rw (at-encoded s xs i l) (symbol-below s xs i))
 
 pub symbols-below : Symbols-below
 unfolding Symbols-below
-symbols-below c xs e = yes-true (all-below (q (c .field)) (encoded c xs)) (encoded-below c xs)
+symbols-below s xs = yes-true (all-below (q (s .field)) (encoded s xs)) (encoded-below s xs)
 
-value-terms : (c : Code) (x : Elem (c .field)) (m : ℕ) (ss : List ℕ) → T (all-below (q (c .field)) ss)
-    → terms (ring-of (c .field)) (exponent c) x m (els (c .field) ss) .0 ≡ value-from c (x .0) m ss
-unfolding terms value-from basis all-below
-value-terms c x m [] t = refl
-value-terms c x m (s ∷ ss) t =
-    let f = c .field in
-    ap₂ (plus f) (ap₂ (times f) (el-is f s (ltb→lt s (q f) (and-left (ltb s (q f)) (all-below (q f) ss) t))) (pow-is f x (exponent c m)))
-    (value-terms c x (suc m) ss (and-right (ltb s (q f)) (all-below (q f) ss) t))
+none-from : (s : Shape) (x : ℕ) → ((m : ℕ) → m < s .k → basis s m x ≡ 0) → (m : ℕ) (ys : List ℕ) → m + length ys ≤ s .k
+    → T (all-below (q (s .field)) ys) → value-from s x m ys ≡ 0
+unfolding value-from all-below
+none-from s x z m [] h t = refl
+none-from s x z m (y ∷ ys) h t =
+    let f = s .field in
+    let b = ltb→lt y (q f) (and-left (ltb y (q f)) (all-below (q f) ys) t) in
+    ap₂ (plus f) (ap (times f y) (z m (omega arith)) ∙ ap (λ e. e .0) (mul-nil (ring-of f) (y, b)))
+    (none-from s x z (suc m) ys (omega arith) (and-right (ltb y (q f)) (all-below (q f) ys) t)) ∙ laws f .plus-zero 0 (zero-below f)
 
-unfoldable pub symbol-of : (c : Code) → List ℕ → ℕ → Elem (c .field)
-symbol-of c xs p = terms (ring-of (c .field)) (exponent c) (locator c p) 0 (els (c .field) xs)
-
-pub symbol-of-is : (c : Code) (xs : List ℕ) (p : ℕ) → Message-is c xs → symbol-of c xs p .0 ≡ symbol c xs p
-unfolding symbol-of symbol value
-symbol-of-is c xs p M = value-terms c (locator c p) 0 xs (M .below) ∙ ap (λ x. value-from c x 0 xs) (locator-is c p)
-
--- on group j
-pub symbol-on-group : (c : Code) (G : Good c) (xs : List ℕ) (j p : ℕ) → group c p ≡ j
-    → symbol-of c xs p ≡ on-group (ring-of (c .field)) (c .r) (size c) (G .r-least) (group-constant c j) 0 (els (c .field) xs) (locator c p)
-unfolding symbol-of exponent raised
-symbol-on-group c G xs j p e =
-    on-group-is (ring-of (c .field)) (c .r) (size c) (G .r-least) (group-constant c j) 0 (els (c .field) xs) (locator c p)
-    (locator-power c G p ∙ ap (group-constant c) e)
+pub value-none : (s : Shape) (xs : List ℕ) (x : ℕ) → Message-is s xs → ((m : ℕ) → m < s .k → basis s m x ≡ 0) → value s xs x ≡ 0
+unfolding value
+value-none s xs x M z = none-from s x z 0 xs (omega (arith, M .length-is)) (M .below)

@@ -1,31 +1,42 @@
 -- All statements of specs/Promise.antt are proved. Assumes nothing.
 --   promises    each of them, from the file of its idea
 use Rattle.code.specs.Promise.{Promises}
+use Rattle.code.proofs.Accepted.{families}
 use Rattle.code.proofs.Points.{points-differ, group-power}
-use Rattle.code.proofs.Exponents.{exponents-are}
+use Rattle.code.proofs.Shared.{exponents-are, shared-are, code-numbers}
 use Rattle.code.proofs.Codewords.{symbols-below}
-use Rattle.code.proofs.Distance.{far-apart, decodes-back, encoding-injective, bridges}
-use Rattle.code.proofs.Weights.{weights-law, repair-interpolates}
+use Rattle.code.proofs.Distance.{far-apart, encoding-injective}
+use Rattle.code.proofs.Decoding.{decodes-back}
+use Rattle.code.proofs.Bridges.{bridges}
+use Rattle.code.proofs.Repairing.{low-degree, groups-tell, restores, repairs-back, strip-restores}
+use Rattle.code.proofs.Passing.{pass-mends}
+use Rattle.code.proofs.Keeping.{before-and-after}
+use Rattle.code.proofs.Weights.{weights-law}
+use Rattle.code.proofs.Interpolating.{repair-interpolates}
 use Rattle.code.proofs.Parity.{weights-are}
-use Rattle.code.proofs.Repairing.{low-degree, groups-tell, repairs-back, strip-restores, pass-mends}
 
 pub promises : Promises
 promises =
     record {
+      families = families;
       points-differ = points-differ;
       group-power = group-power;
       exponents-are = exponents-are;
+      shared-are = shared-are;
+      code-numbers = code-numbers;
       symbols-below = symbols-below;
       low-degree = low-degree;
       far-apart = far-apart;
-      groups-tell = groups-tell;
       decodes-back = decodes-back;
+      encoding-injective = encoding-injective;
+      bridges = bridges;
+      groups-tell = groups-tell;
+      restores = restores;
       repairs-back = repairs-back;
       strip-restores = strip-restores;
       pass-mends = pass-mends;
+      before-and-after = before-and-after;
       weights-law = weights-law;
       repair-interpolates = repair-interpolates;
       weights-are = weights-are;
-      encoding-injective = encoding-injective;
-      bridges = bridges;
     }

@@ -8,29 +8,29 @@ use mathlib.Core.List.{List}
 use Prim.Native.Nat.{ℕ}
 use Rattle.code.specs.Decoding.{fits}
 use Rattle.code.specs.Verdict.{Verdict, one, none, more}
-use Rattle.code.specs.declared.Code.{Code}
+use Rattle.code.specs.declared.Shape.{Shape}
 
-module _ (c : Code) (ws ms : List ℕ) where
-  pub one-only : (a z xs : List ℕ) (x : ℕ) → Verdict c ws ms a z x → fits c ws ms xs ≡ true
-      → ((ys : List ℕ) → fits c ws ms ys ≡ true → ys ≡ xs) → (x ≡ 0) × (z ≡ xs)
+module _ (s : Shape) (ws ms : List ℕ) where
+  pub one-only : (a z xs : List ℕ) (x : ℕ) → Verdict s ws ms a z x → fits s ws ms xs ≡ true
+      → ((ys : List ℕ) → fits s ws ms ys ≡ true → ys ≡ xs) → (x ≡ 0) × (z ≡ xs)
   one-only a z xs x (one f u) g v = (refl, v z f)
   one-only a z xs x (none n p) g v = absurd (n xs g)
   one-only a z xs x (more ys zs f h n p) g v = absurd (n (v ys f ∙ sym (v zs h)))
 
-  pub none-only : (a z : List ℕ) (x : ℕ) → Verdict c ws ms a z x → ((ys : List ℕ) → fits c ws ms ys ≡ true → ⊥) → (x ≡ 9) × (z ≡ a)
+  pub none-only : (a z : List ℕ) (x : ℕ) → Verdict s ws ms a z x → ((ys : List ℕ) → fits s ws ms ys ≡ true → ⊥) → (x ≡ 9) × (z ≡ a)
   none-only a z x (one f u) v = absurd (v z f)
   none-only a z x (none n p) v = (refl, p)
   none-only a z x (more ys zs f h n p) v = absurd (v ys f)
 
-  pub more-only : (a z ys zs : List ℕ) (x : ℕ) → Verdict c ws ms a z x → fits c ws ms ys ≡ true → fits c ws ms zs ≡ true → ys ≢ zs
+  pub more-only : (a z ys zs : List ℕ) (x : ℕ) → Verdict s ws ms a z x → fits s ws ms ys ≡ true → fits s ws ms zs ≡ true → ys ≢ zs
       → (x ≡ 10) × (z ≡ a)
   more-only a z ys zs x (one f u) g h n = absurd (n (u ys g ∙ sym (u zs h)))
   more-only a z ys zs x (none v p) g h n = absurd (v ys g)
   more-only a z ys zs x (more xs us f k v p) g h n = (refl, p)
 
 -- just the same messages fit ws under ms and vs under ns
-pub verdict-same : (c : Code) (ws ms vs ns a z : List ℕ) (x : ℕ) → ((ys : List ℕ) → fits c ws ms ys ≡ true → fits c vs ns ys ≡ true)
-    → ((ys : List ℕ) → fits c vs ns ys ≡ true → fits c ws ms ys ≡ true) → Verdict c vs ns a z x → Verdict c ws ms a z x
-verdict-same c ws ms vs ns a z x there back (one f u) = one (back z f) (λ ys g. u ys (there ys g))
-verdict-same c ws ms vs ns a z x there back (none n d) = none (λ ys g. n ys (there ys g)) d
-verdict-same c ws ms vs ns a z x there back (more ys zs f g n d) = more ys zs (back ys f) (back zs g) n d
+pub verdict-same : (s : Shape) (ws ms vs ns a z : List ℕ) (x : ℕ) → ((ys : List ℕ) → fits s ws ms ys ≡ true → fits s vs ns ys ≡ true)
+    → ((ys : List ℕ) → fits s vs ns ys ≡ true → fits s ws ms ys ≡ true) → Verdict s vs ns a z x → Verdict s ws ms a z x
+verdict-same s ws ms vs ns a z x there back (one f u) = one (back z f) (λ ys g. u ys (there ys g))
+verdict-same s ws ms vs ns a z x there back (none n d) = none (λ ys g. n ys (there ys g)) d
+verdict-same s ws ms vs ns a z x there back (more ys zs f g n d) = more ys zs (back ys f) (back zs g) n d

@@ -1,167 +1,125 @@
--- Repair for any mates' symbols: weights are Lagrange's, and one polynomial with r coefficients goes through the mates. Assumes nothing.
+-- Weights are Lagrange's: with a polynomial's values at some places they give its value at another. Assumes nothing.
 --   weigh-is               a weight is that of the field
---   mates-differ           the mates' points differ
---   weights-law            weights with a polynomial's values at the mates give its value at the slot
---   repair-interpolates    the polynomial through the mates, and repair as its value at the slot
--- The statements are those of specs/Promise.antt.
+--   places-differ          points of places differ
+--   restored-poly          the value of a polynomial from as many places as it has coefficients
+--   restored-front         the same from the first of these places, where it is 0 at the rest
+--   weights-law            Weights-law of specs/Promise.antt
 use mathlib.Core.Path.{_≡_, refl, sym, ap, ap₂, _∙_}
 use mathlib.Core.Bool.{Bool, true, false, cond}
 use mathlib.Core.List.{List, [], _∷_, map}
-use Prim.Native.Nat.{ℕ, _<_}
+use Prim.Native.Nat.{ℕ, zero, suc, _-_, _≤_, _<_}
 use native.Mathlib.Omega.{arith}
 use lib.Dec.{T, eqb}
-use lib.ListN.{length, length-map}
+use lib.ListN.{length, length-map, take, drop}
 use Rattle.algebra.specs.Ring.{Ring, Field}
-use Rattle.algebra.specs.Sequence.{all-below, Each, In}
+use Rattle.algebra.specs.Sequence.{all-below, Each, Distinct, In}
 use Rattle.algebra.specs.Polynomial.{eval, Poly}
 use Rattle.algebra.specs.Interpolation.{weigh, weighted}
-use Rattle.algebra.proofs.Sequence.{so, yes-true, each-intro, each-at, each-map, distinct-map, map-each, each-of-map, lookup, lookup-below, map-lookup}
-use Rattle.algebra.proofs.Polynomial.{poly-of, pad, length-pad, eval-pad, unique-coefs}
-use Rattle.algebra.proofs.Interpolation.{through, weighted-poly, lagrange}
+use Rattle.algebra.proofs.Ring.{mul-nil}
+use Rattle.algebra.proofs.Sequence.{so, each-intro, each-at, map-each}
+use Rattle.algebra.proofs.Polynomial.{poly-of}
+use Rattle.algebra.proofs.Interpolation.{lagrange}
 use Rattle.field.specs.Field.{q, plus, minus, times, inverse}
 use Rattle.field.specs.Polynomial.{poly, dotted}
-use Rattle.field.proofs.Laws.{laws}
-use Rattle.field.proofs.Elem.{Elem, same as same-el, ring-of, field-of, inv, el, el-is}
-use Rattle.code.specs.Code.{point}
-use Rattle.code.specs.Repair.{mates, weight-over, weight, weights, repaired}
-use Rattle.code.specs.Promise.{Weights-law, Through, Interpolates, Repair-interpolates}
-use Rattle.code.specs.declared.Code.{Code}
-use Rattle.code.proofs.Accepted.{Good, good}
+use Rattle.field.proofs.Elem.{Elem, same as same-el, ring-of, field-of, inv, el}
+use Rattle.code.specs.declared.Shape.{Shape}
+use Rattle.code.specs.Shape.{size, room, group, members, point, others, mates}
+use Rattle.code.specs.Repair.{weight-over, weights-over, restored, weights}
+use Rattle.code.specs.Laws.{Placed}
+use Rattle.code.specs.Promise.{Weights-law}
+use Rattle.code.proofs.Elements.{els, poly-els}
+use Rattle.code.proofs.Places.{n-room}
 use Rattle.code.proofs.Points.{locator, locators-differ}
-use Rattle.code.proofs.Mates.{length-mates, mates-distinct, mate-is}
-use Rattle.code.proofs.Elements.{els, nums, els-injective, nums-below, poly-nums, poly-els}
+use Rattle.code.proofs.Fronts.{in-drop}
+use Rattle.code.proofs.Others.{length-others, others-distinct, other-is}
+use Rattle.code.proofs.Mates.{mates-behind}
 
-module _ (c : Code) where
+module _ (s : Shape) where
   abbrev f : ℕ
-  f = c .field
+  f = s .field
 
   abbrev R : Ring
-  R = ring-of (c .field)
+  R = ring-of (s .field)
 
   abbrev F : Field
-  F = field-of (c .field)
+  F = field-of (s .field)
 
   -- weights and weighted sums are those of the field
   module _ (p : ℕ) where
-    pub weigh-is : (m : ℕ) (os : List ℕ) → weigh F (locator c) (locator c p) (locator c m) m os .0 ≡ weight-over c (point c p) (point c m) m os
+    pub weigh-is : (m : ℕ) (os : List ℕ) → weigh F (locator s) (locator s p) (locator s m) m os .0 ≡ weight-over s (point s p) (point s m) m os
     unfolding weigh weight-over locator inv
     weigh-is m [] = refl
-    weigh-is m (o ∷ os) = go (eqb o m) (weigh F (locator c) (locator c p) (locator c m) m os) (weight-over c (point c p) (point c m) m os) (weigh-is m os)
+    weigh-is m (o ∷ os) = go (eqb o m) (weigh F (locator s) (locator s p) (locator s m) m os) (weight-over s (point s p) (point s m) m os) (weigh-is m os)
       where
         go : (b : Bool) (x : Elem f) (y : ℕ) → x .0 ≡ y
-            → (cond b x (R .mul (R .mul (R .sub (locator c p) (locator c o)) (inv f (R .sub (locator c m) (locator c o)))) x)) .0
-            ≡ cond b y (times f (times f (minus f (point c p) (point c o)) (inverse f (minus f (point c m) (point c o)))) y)
+            → (cond b x (R .mul (R .mul (R .sub (locator s p) (locator s o)) (inv f (R .sub (locator s m) (locator s o)))) x)) .0
+            ≡ cond b y (times f (times f (minus f (point s p) (point s o)) (inverse f (minus f (point s m) (point s o)))) y)
         go true x y e = e
-        go false x y e = ap (λ n. times f (times f (minus f (point c p) (point c o)) (inverse f (minus f (point c m) (point c o)))) n) e
+        go false x y e = ap (λ n. times f (times f (minus f (point s p) (point s o)) (inverse f (minus f (point s m) (point s o)))) n) e
 
-    weighted-is : (v : ℕ → Elem f) (ms : List ℕ)
-        → weighted F (locator c) (locator c p) (mates c p) v ms .0 ≡ dotted f (map (weight c p) ms) (map (λ m. v m .0) ms)
-    unfolding weighted dotted weight
-    weighted-is v [] = refl
-    weighted-is v (m ∷ ms) = ap₂ (plus f) (ap (λ w. times f w (v m .0)) (weigh-is m (mates c p))) (weighted-is v ms)
+    weighted-is : (os : List ℕ) (v : ℕ → Elem f) (ms : List ℕ)
+        → weighted F (locator s) (locator s p) os v ms .0 ≡ restored s os ms p (map (λ m. v m .0) ms)
+    unfolding weighted dotted restored weights-over
+    weighted-is os v [] = refl
+    weighted-is os v (m ∷ ms) = ap₂ (plus f) (ap (λ w. times f w (v m .0)) (weigh-is m os)) (weighted-is os v ms)
 
-  module _ (G : Good c) (p : ℕ) (inside : p < c .n) where
-    pub mates-differ : (i j : ℕ) → In i (mates c p) → In j (mates c p) → locator c i ≡ locator c j → i ≡ j
-    mates-differ i j a b e = locators-differ c G i j (mate-is c p G inside a .below) (mate-is c p G inside b .below) e
+    -- terms that are 0
+    weighted-none : (os : List ℕ) (v : ℕ → Elem f) (ms : List ℕ) → Each (λ m. v m ≡ R .nil) ms → weighted F (locator s) (locator s p) os v ms ≡ R .nil
+    unfolding weighted
+    weighted-none os v [] e = refl
+    weighted-none os v (m ∷ ms) e =
+        let w = weigh F (locator s) (locator s p) (locator s m) m os in
+        ap₂ (R .add) (ap (R .mul w) (e .0) ∙ mul-nil R w) (weighted-none os v ms (e .1)) ∙ R .add-nil (R .nil)
 
-    pub weigh-poly : (cs : List ℕ) → length cs ≡ c .r → T (all-below (q (c .field)) cs)
-        → dotted (c .field) (weights c p) (map (λ m. poly (c .field) cs (point c m)) (mates c p)) ≡ poly (c .field) cs (point c p)
-    unfolding weights locator
-    weigh-poly cs h t =
-        ap (dotted f (map (weight c p) (mates c p)))
-        (map-each (λ m. poly f cs (point c m)) (λ m. g (locator c m) .0) (mates c p)
-        (each-intro (λ m. poly f cs (point c m) ≡ g (locator c m) .0) (mates c p) (λ m i. poly-els f cs t (locator c m))))
-        ∙ sym (weighted-is p (λ m. g (locator c m)) (mates c p))
-        ∙ ap (λ x. x .0) (lagrange F (locator c) (mates c p) (mates-distinct c p) mates-differ g-poly (locator c p))
-        ∙ sym (poly-els f cs t (locator c p))
-      where
-        g : Elem f → Elem f
-        g x = eval R (els f cs) x
+    weighted-front : (os : List ℕ) (v : ℕ → Elem f) (k : ℕ) (ms : List ℕ) → Each (λ m. v m ≡ R .nil) (drop k ms)
+        → weighted F (locator s) (locator s p) os v (take k ms) ≡ weighted F (locator s) (locator s p) os v ms
+    unfolding weighted
+    weighted-front os v zero ms e = sym (weighted-none os v ms e)
+    weighted-front os v (suc k) [] e = refl
+    weighted-front os v (suc k) (m ∷ ms) e = ap (R .add (R .mul (weigh F (locator s) (locator s p) (locator s m) m os) (v m))) (weighted-front os v k ms e)
 
-        length-is : length (els f cs) ≡ c .r
-        length-is = length-map cs (el f) ∙ h
+  module _ (P : Placed s) (os : List ℕ) (distinct : Distinct os) (inside : (o : ℕ) → In o os → o < room s) where
+    pub places-differ : (i j : ℕ) → In i os → In j os → locator s i ≡ locator s j → i ≡ j
+    places-differ i j a b e = locators-differ s P i j (inside i a) (inside j b) e
 
-        g-poly : Poly R (length (mates c p)) g
-        g-poly = rw (length-mates c p, ← length-is) (poly-of R (els f cs))
+    module _ (p : ℕ) (cs : List ℕ) (long : length cs ≡ length os) (below : T (all-below (q (s .field)) cs)) where
+      through : Elem f → Elem f
+      through x = eval R (els f cs) x
 
-    -- any symbols of the mates lie on one polynomial
-    module _ (xs : List ℕ) (length-is : length xs ≡ c .r) (below : T (all-below (q f) xs)) where
-      given : ℕ → Elem f
-      given m = el f (lookup (mates c p) xs m)
+      through-poly : Poly R (length os) through
+      unfolding through
+      through-poly = let e : length (els f cs) ≡ length os = length-map cs (el f) ∙ long in rw (← e) (poly-of R (els f cs))
 
-      given-is : (m : ℕ) → given m .0 ≡ lookup (mates c p) xs m
-      unfolding given
-      given-is m =
-          el-is f (lookup (mates c p) xs m) (lookup-below (q f) (mates c p) xs m (omega (arith, laws f .two-below)) below)
+      through-is : (m : ℕ) → poly f cs (point s m) ≡ through (locator s m) .0
+      unfolding through locator
+      through-is m = poly-els f cs below (locator s m)
 
-      curve : Poly R (length (mates c p)) (λ x. weighted F (locator c) x (mates c p) given (mates c p))
-      curve = weighted-poly F (locator c) (mates c p) given (mates c p) (each-intro (λ m. In m (mates c p)) (mates c p) (λ m i. i))
+      values : (ms : List ℕ) → map (λ m. poly f cs (point s m)) ms ≡ map (λ m. through (locator s m) .0) ms
+      values ms =
+          map-each (λ m. poly f cs (point s m)) (λ m. through (locator s m) .0) ms
+          (each-intro (λ m. poly f cs (point s m) ≡ through (locator s m) .0) ms (λ m i. through-is m))
 
-      fitted : List (Elem f)
-      fitted = pad R (c .r) (curve .coefs)
+      sum-is : weighted F (locator s) (locator s p) os (λ m. through (locator s m)) os .0 ≡ poly f cs (point s p)
+      sum-is =
+          ap (λ x. x .0) (lagrange F (locator s) os distinct places-differ through-poly (locator s p)) ∙ sym (through-is p)
 
-      length-fitted : length fitted ≡ c .r
-      unfolding fitted
-      length-fitted = length-pad R (c .r) (curve .coefs) (omega (arith, curve .few, length-mates c p))
+      pub restored-poly : restored s os os p (map (λ m. poly (s .field) cs (point s m)) os) ≡ poly (s .field) cs (point s p)
+      restored-poly = ap (restored s os os p) (values os) ∙ sym (weighted-is p os (λ m. through (locator s m)) os) ∙ sum-is
 
-      fitted-at : (m : ℕ) → In m (mates c p) → poly f (nums f fitted) (point c m) ≡ lookup (mates c p) xs m
-      unfolding locator fitted
-      fitted-at m i =
-          poly-nums f fitted (locator c m)
-          ∙ ap (λ x. x .0)
-          (eval-pad R (c .r) (curve .coefs) (locator c m) ∙ sym (curve .is (locator c m))
-          ∙ through F (locator c) (mates c p) (mates-distinct c p) mates-differ given m i)
-          ∙ given-is m
-
-      fitted-through : Through c p xs (nums f fitted)
-      fitted-through =
-          record {
-            few = length-map fitted (λ x. x .0) ∙ length-fitted;
-            below = yes-true (all-below (q f) (nums f fitted)) (nums-below f fitted);
-            is =
-                map-each (λ m. poly f (nums f fitted) (point c m)) (lookup (mates c p) xs) (mates c p)
-                (each-intro (λ m. poly f (nums f fitted) (point c m) ≡ lookup (mates c p) xs m) (mates c p) fitted-at)
-                ∙ map-lookup (mates c p) xs (mates-distinct c p) (length-mates c p ∙ sym length-is);
-          }
-
-    through-only : (xs cs ds : List ℕ) → Through c p xs cs → Through c p xs ds → cs ≡ ds
-    unfolding locator
-    through-only xs cs ds s t =
-        els-injective f cs ds (so (s .below)) (so (t .below))
-        (unique-coefs F (map (locator c) (mates c p)) (els f cs) (els f ds)
-        (distinct-map (locator c) (mates c p) mates-differ (mates-distinct c p)) (long cs s ∙ sym (long ds t))
-        (omega (arith, long cs s, length-mates c p, length-map (mates c p) (locator c)))
-        (each-map (locator c) (λ x. eval R (els f cs) x ≡ eval R (els f ds) x) (mates c p)
-        (each-intro (λ m. eval R (els f cs) (locator c m) ≡ eval R (els f ds) (locator c m)) (mates c p) agree)))
-      where
-        long : (es : List ℕ) → Through c p xs es → length (els f es) ≡ c .r
-        long es r = length-map es (el f) ∙ r .few
-
-        both : Each (λ m. poly f cs (point c m) ≡ poly f ds (point c m)) (mates c p)
-        both = each-of-map (λ m. poly f cs (point c m)) (λ m. poly f ds (point c m)) (mates c p) (s .is ∙ sym (t .is))
-
-        agree : (m : ℕ) → In m (mates c p) → eval R (els f cs) (locator c m) ≡ eval R (els f ds) (locator c m)
-        agree m i =
-            same-el f _ _
-            (sym (poly-els f cs (so (s .below)) (locator c m)) ∙ each-at (λ m. poly f cs (point c m) ≡ poly f ds (point c m)) both i
-            ∙ poly-els f ds (so (t .below)) (locator c m))
-
-    interpolates : (xs : List ℕ) → length xs ≡ c .r → T (all-below (q f) xs) → Interpolates c p xs
-    unfolding repaired
-    interpolates xs h t =
-        let s = fitted-through xs h t in
-        let cs = nums f (fitted xs h t) in
-        record {
-          coefs = cs;
-          through = s;
-          only = λ ds u. through-only xs ds cs u s;
-          answer = ap (dotted f (weights c p)) (sym (s .is)) ∙ weigh-poly cs (s .few) (so (s .below));
-        }
+      pub restored-front : (k : ℕ) → Each (λ o. poly (s .field) cs (point s o) ≡ 0) (drop k os)
+          → restored s os (take k os) p (map (λ m. poly (s .field) cs (point s m)) (take k os)) ≡ poly (s .field) cs (point s p)
+      restored-front k z =
+          ap (restored s os (take k os) p) (values (take k os)) ∙ sym (weighted-is p os (λ m. through (locator s m)) (take k os))
+          ∙ ap (λ x. x .0) (weighted-front p os (λ m. through (locator s m)) k os
+          (each-intro (λ m. through (locator s m) ≡ R .nil) (drop k os)
+          (λ m i. same-el f _ _ (sym (through-is m) ∙ each-at (λ o. poly f cs (point s o) ≡ 0) z i))))
+          ∙ sum-is
 
 pub weights-law : Weights-law
-unfolding Weights-law
-weights-law c p cs e h l b = weigh-poly c (good c e) p h cs l (so b)
-
-pub repair-interpolates : Repair-interpolates
-unfolding Repair-interpolates
-repair-interpolates c p xs e h l b = interpolates c (good c e) p h xs l (so b)
+unfolding Weights-law weights mates restored size
+weights-law s p cs P one h long below z =
+    let l : p < room s = omega (arith, n-room s P) in
+    let k : ℕ = members s (group s p) - 1 in
+    restored-front s P (others s p) (others-distinct s P p l) (λ o i. other-is s P p l i .below) p cs (omega (arith, length-others s P p l)) (so below) k
+    (each-intro (λ o. poly (s .field) cs (point s o) ≡ 0) (drop k (others s p))
+    (λ o i. z o (in-drop k (others s p) i) (each-at (λ o. s .n ≤ o) (mates-behind s P p h) i)))

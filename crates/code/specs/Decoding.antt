@@ -1,17 +1,20 @@
 -- What decoding has to find: the messages whose codewords agree with all kept symbols. Assumes nothing: these are definitions.
---   agrees c cs ws ms  == the word cs has the symbols of ws at every kept slot
---   fits c ws ms xs    == xs is a message, and its codeword agrees
+--   lost ms p            == slot p is lost: its mark is 1
+--   agrees s cs ws ms    == the word cs has the symbols of ws at every kept slot
+--   fits s ws ms xs      == xs is a message, and its codeword agrees
 use mathlib.Core.Bool.{Bool, _&&_, _||_}
 use mathlib.Core.List.{List}
 use Prim.Native.Nat.{ℕ}
 use lib.Dec.{eqb}
 use Rattle.algebra.specs.Sequence.{at, every}
+use Rattle.code.specs.declared.Shape.{Shape}
 use Rattle.code.specs.Codeword.{is-message, encoded}
-use Rattle.code.specs.Erasure.{lost}
-use Rattle.code.specs.declared.Code.{Code}
 
-unfoldable pub agrees : Code → (codeword word marks : List ℕ) → Bool
-agrees c cs ws ms = every (λ p. lost ms p || eqb (at cs p) (at ws p)) (c .n)
+unfoldable pub lost : (marks : List ℕ) → (slot : ℕ) → Bool
+lost ms p = eqb (at ms p) 1
 
-unfoldable pub fits : Code → (word marks message : List ℕ) → Bool
-fits c ws ms xs = is-message c xs && agrees c (encoded c xs) ws ms
+unfoldable pub agrees : Shape → (codeword word marks : List ℕ) → Bool
+agrees s cs ws ms = every (λ p. lost ms p || eqb (at cs p) (at ws p)) (s .n)
+
+unfoldable pub fits : Shape → (word marks message : List ℕ) → Bool
+fits s ws ms xs = is-message s xs && agrees s (encoded s xs) ws ms

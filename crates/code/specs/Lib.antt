@@ -1,10 +1,14 @@
 pub mod Question
 pub mod Answer
-pub mod Code
+pub mod Search
+pub mod Shape
+pub mod Basis
 pub mod Codeword
+pub mod Decoding
 pub mod Erasure
 pub mod Repair
-pub mod Decoding
+pub mod Pass
+pub mod Family
+pub mod Laws
 pub mod Verdict
 pub mod Promise
-pub mod Case

@@ -1,176 +1,214 @@
--- What is promised of codes, codewords, repairs and decoding. Each statement is a type; proofs/Promises.antt proves them all.
--- Assumes nothing: these are statements.
---   Points-differ, Group-power, Exponents-are, Symbols-below, Low-degree    points and polynomials
---   Far-apart, Groups-tell, Decodes-back, Repairs-back                      the third demand
---   Strip-restores, Pass-mends                                              and what follows of strips and the local pass
---   Weights-law, Repair-interpolates, Weights-are                           repair for any mates, of a codeword or not
---   Encoding-injective, Bridges                                             messages and codewords
---   Promises                                                                all of them
+-- What is promised of every family. Each statement is a type; proofs/Promises.antt proves them all. Assumes nothing: these are statements.
+--   Families                                              the codes of the paper are a family, and a plain one
+--   Points-differ, Group-power, Exponents-are             points and exponents
+--   Shared-are, Code-numbers                              the most places that two codewords share, and the guarantee, in closed form
+--   Symbols-below, Low-degree                             codewords
+--   Far-apart, Decodes-back, Encoding-injective, Bridges  one proof of the distance rule; messages and codewords
+--   Groups-tell, Restores, Repairs-back, Strip-restores   groups
+--   Pass-mends, Before-and-after                          the local pass
+--   Weights-law, Repair-interpolates, Weights-are         repair for any mates, of a codeword or not
+--   Promises                                              all of them
 use mathlib.Core.Path.{_≡_}
 use mathlib.Core.Logic.{_≢_}
 use mathlib.Core.Bool.{true}
 use mathlib.Core.List.{List, map}
 use Prim.Native.Nat.{ℕ, _+_, _*_, _-_, _≤_, _<_}
 use lib.ListN.{length}
-use Rattle.algebra.specs.Sequence.{at, tabulate, all-below}
+use Rattle.algebra.specs.Sequence.{at, all-below, Each, Distinct, In}
 use Rattle.field.specs.Field.{q, γ, minus, times, power, inverse}
 use Rattle.field.specs.Polynomial.{poly, dotted}
-use Rattle.code.specs.Code.{size, code-refusal, group, point, exponent}
-use Rattle.code.specs.Codeword.{is-message, symbol, encoded, Codeword, shared, ceiling, most-shared}
-use Rattle.code.specs.Erasure.{lost-number, guarantee}
-use Rattle.code.specs.Repair.{mates, weights, repaired, symbols-of, column, strip, mends, passed}
-use Rattle.code.specs.Decoding.{agrees, fits}
 use Rattle.code.specs.declared.Code.{Code}
+use Rattle.code.specs.declared.Shape.{Shape}
+use Rattle.code.specs.Shape.{ceiling, size, groups, room, missing, group, point, others, mates}
+use Rattle.code.specs.Basis.{exponent, degree, most-shared}
+use Rattle.code.specs.Family.{single, code-refusal}
+use Rattle.code.specs.Codeword.{is-message, value, symbol, encoded, Codeword, shared, guarantee}
+use Rattle.code.specs.Decoding.{agrees, fits}
+use Rattle.code.specs.Erasure.{lost-number}
+use Rattle.code.specs.Repair.{restored, weights, repaired, symbols-of, column, strip}
+use Rattle.code.specs.Pass.{kept-places, mends, passed, marks-after}
+use Rattle.code.specs.Laws.{Placed, On-group, Family, Plain}
 
 -- a code that questions 1 to 4 pass
 abbrev pub Accepted : Code → Type 0
 Accepted c = code-refusal c ≡ 0
 
+unfoldable pub Families : Type 0
+Families = (c : Code) → Accepted c → Plain (single c)
+
 -- k symbols below q
-abbrev pub Message : Code → List ℕ → Type 0
-Message c ms = is-message c ms ≡ true
+abbrev pub Message : Shape → List ℕ → Type 0
+Message s ms = is-message s ms ≡ true
 
--- all n points differ
+-- all points differ
 unfoldable pub Points-differ : Type 0
-Points-differ = (c : Code) (p s : ℕ) → Accepted c → p < c .n → s < c .n → point c p ≡ point c s → p ≡ s
+Points-differ = (s : Shape) (p o : ℕ) → Placed s → p < room s → o < room s → point s p ≡ point s o → p ≡ o
 
--- the power r + 1 of a point depends only on its group
+-- the power size of a point depends only on its group
 unfoldable pub Group-power : Type 0
-Group-power = (c : Code) (p : ℕ) → Accepted c → p < c .n → power (c .field) (point c p) (size c) ≡ power (c .field) γ (group c p * size c)
+Group-power = (s : Shape) (p : ℕ) → Placed s → p < room s → power (s .field) (point s p) (size s) ≡ power (s .field) γ (group s p * size s)
 
--- the largest exponent is k + ⌈k/r⌉ - 2; the guarantee is n - k - ⌈k/r⌉ + 1, n - 1 less that exponent
-pub record Exponents (c : Code) : Type 0 where
-  pub most : (m : ℕ) → m < c .k → exponent c m ≤ most-shared c
-  pub last : exponent c (c .k - 1) ≡ most-shared c
-  pub largest : most-shared c + 2 ≡ c .k + ceiling (c .k) (c .r)
-  pub sure : guarantee c + (c .k + ceiling (c .k) (c .r)) ≡ c .n + 1
+-- the exponents rise to the largest degree
+pub record Exponents (s : Shape) : Type 0 where
+  pub most : (m : ℕ) → m < s .k → exponent s m ≤ degree s
+  pub last : exponent s (s .k - 1) ≡ degree s
+  pub differ : (i j : ℕ) → exponent s i ≡ exponent s j → i ≡ j
 
 unfoldable pub Exponents-are : Type 0
-Exponents-are = (c : Code) → Accepted c → Exponents c
+Exponents-are = (s : Shape) → Plain s → Exponents s
+
+-- k' = k + missing: two codewords share at most k - 1 + tolerance × (⌈k'/r⌉ - 1) places, and what is left of n is sure
+pub record Shared-is (s : Shape) : Type 0 where
+  pub most : most-shared s ≡ s .k - 1 + s .tolerance * (ceiling (s .k + missing s) (s .r) - 1)
+  pub sure : guarantee s + s .k + s .tolerance * (ceiling (s .k + missing s) (s .r) - 1) ≡ s .n
+
+unfoldable pub Shared-are : Type 0
+Shared-are = (s : Shape) → Family s → s .second ≡ 0 → Shared-is s
+
+-- the paper's numbers: the largest exponent is k + ⌈k/r⌉ - 2, the guarantee n - k - ⌈k/r⌉ + 1
+pub record Numbers (c : Code) : Type 0 where
+  pub largest : degree (single c) + 2 ≡ c .k + ceiling (c .k) (c .r)
+  pub most : most-shared (single c) + 2 ≡ c .k + ceiling (c .k) (c .r)
+  pub sure : guarantee (single c) + (c .k + ceiling (c .k) (c .r)) ≡ c .n + 1
+
+unfoldable pub Code-numbers : Type 0
+Code-numbers = (c : Code) → Accepted c → Numbers c
 
 -- symbols of a codeword are below q
 unfoldable pub Symbols-below : Type 0
-Symbols-below = (c : Code) (xs : List ℕ) → Accepted c → all-below (q (c .field)) (encoded c xs) ≡ true
+Symbols-below = (s : Shape) (xs : List ℕ) → all-below (q (s .field)) (encoded s xs) ≡ true
 
--- on one group the encoding polynomial has the values of one with r coefficients, so of degree at most r - 1
-pub record Low (c : Code) (xs : List ℕ) (j : ℕ) : Type 0 where
-  pub coefs : List ℕ
-  pub few : length coefs ≡ c .r
-  pub below : all-below (q (c .field)) coefs ≡ true
-  pub is : (p : ℕ) → p < c .n → group c p ≡ j → symbol c xs p ≡ poly (c .field) coefs (point c p)
-
+-- on one group the encoding polynomial has the values of one with r coefficients
 unfoldable pub Low-degree : Type 0
-Low-degree = (c : Code) (xs : List ℕ) (j : ℕ) → Accepted c → Message c xs → Low c xs j
+Low-degree = (s : Shape) (xs : List ℕ) (j : ℕ) → Family s → Message s xs → j < groups s → On-group s j (value s xs)
 
--- THE THIRD DEMAND. Codewords of two different messages share at most k + ⌈k/r⌉ - 2 places
+-- THE DISTANCE RULE, once for all families
 unfoldable pub Far-apart : Type 0
 Far-apart =
-    (c : Code) (xs ys : List ℕ) → Accepted c → Message c xs → Message c ys → xs ≢ ys
-    → shared c (encoded c xs) (encoded c ys) + 2 ≤ c .k + ceiling (c .k) (c .r)
+    (s : Shape) (xs ys : List ℕ) → Family s → Message s xs → Message s ys → xs ≢ ys → shared s (encoded s xs) (encoded s ys) ≤ most-shared s
 
--- two codewords that share r symbols of a group share the remaining one
-unfoldable pub Groups-tell : Type 0
-Groups-tell =
-    (c : Code) (xs ys : List ℕ) (p : ℕ) → Accepted c → Message c xs → Message c ys → p < c .n
-    → symbols-of (encoded c xs) (mates c p) ≡ symbols-of (encoded c ys) (mates c p) → at (encoded c xs) p ≡ at (encoded c ys) p
-
--- with at most n - k - ⌈k/r⌉ + 1 slots lost, just the encoded message fits, whatever stands in the lost slots
+-- losses within the guarantee leave one message only, whatever stands in the lost slots
 unfoldable pub Decodes-back : Type 0
 Decodes-back =
-    (c : Code) (xs ws ms : List ℕ) → Accepted c → Message c xs → agrees c (encoded c xs) ws ms ≡ true
-    → lost-number c ms + (c .k + ceiling (c .k) (c .r)) ≤ c .n + 1
-    → (fits c ws ms xs ≡ true) × ((ys : List ℕ) → fits c ws ms ys ≡ true → ys ≡ xs)
-
--- repair gives the codeword's symbol from its mates', whatever became of the other groups
-unfoldable pub Repairs-back : Type 0
-Repairs-back =
-    (c : Code) (xs : List ℕ) (p : ℕ) → Accepted c → Message c xs → p < c .n
-    → repaired c p (symbols-of (encoded c xs) (mates c p)) ≡ at (encoded c xs) p
-
--- a strip whose every column holds a codeword's symbols at the mates is rebuilt to the codewords' symbols
-unfoldable pub Strip-restores : Type 0
-Strip-restores =
-    (c : Code) (xs : ℕ → List ℕ) (p l : ℕ) (strips : List ℕ) → Accepted c → p < c .n
-    → ((i : ℕ) → i < l → Message c (xs i) × (column (c .r) l i strips ≡ symbols-of (encoded c (xs i)) (mates c p)))
-    → strip c p l strips ≡ tabulate (λ i. at (encoded c (xs i)) p) l
-
--- the local pass leaves the codeword's symbol in a slot that it mends, if the slot's mates hold the codeword's
-unfoldable pub Pass-mends : Type 0
-Pass-mends =
-    (c : Code) (xs ws ms : List ℕ) (p : ℕ) → Accepted c → Message c xs → p < c .n → mends c ms p ≡ true
-    → symbols-of ws (mates c p) ≡ symbols-of (encoded c xs) (mates c p) → at (passed c ws ms) p ≡ at (encoded c xs) p
-
--- the lost symbol is the sum of weight times mate for every polynomial of degree below r
-unfoldable pub Weights-law : Type 0
-Weights-law =
-    (c : Code) (p : ℕ) (cs : List ℕ) → Accepted c → p < c .n → length cs ≡ c .r → all-below (q (c .field)) cs ≡ true
-    → dotted (c .field) (weights c p) (map (λ m. poly (c .field) cs (point c m)) (mates c p)) ≡ poly (c .field) cs (point c p)
-
--- the polynomial with r coefficients through the mates' symbols, whatever they are
-pub record Through (c : Code) (p : ℕ) (xs : List ℕ) (cs : List ℕ) : Type 0 where
-  pub few : length cs ≡ c .r
-  pub below : all-below (q (c .field)) cs ≡ true
-  pub is : map (λ m. poly (c .field) cs (point c m)) (mates c p) ≡ xs
-
--- there is just one, and repair answers its value at the slot's point
-pub record Interpolates (c : Code) (p : ℕ) (xs : List ℕ) : Type 0 where
-  pub coefs : List ℕ
-  pub through : Through c p xs coefs
-  pub only : (cs : List ℕ) → Through c p xs cs → cs ≡ coefs
-  pub answer : repaired c p xs ≡ poly (c .field) coefs (point c p)
-
-unfoldable pub Repair-interpolates : Type 0
-Repair-interpolates =
-    (c : Code) (p : ℕ) (xs : List ℕ) → Accepted c → p < c .n → length xs ≡ c .r → all-below (q (c .field)) xs ≡ true
-    → Interpolates c p xs
-
--- the weight of mate m for slot p is - x m / x p, where x are the points
-unfoldable pub Weights-are : Type 0
-Weights-are =
-    (c : Code) (p : ℕ) → Accepted c → p < c .n
-    → weights c p ≡ map (λ m. minus (c .field) 0 (times (c .field) (point c m) (inverse (c .field) (point c p)))) (mates c p)
+    (s : Shape) (xs ws ms : List ℕ) → Family s → Message s xs → agrees s (encoded s xs) ws ms ≡ true → lost-number s ms ≤ guarantee s
+    → (fits s ws ms xs ≡ true) × ((ys : List ℕ) → fits s ws ms ys ≡ true → ys ≡ xs)
 
 -- a codeword has one message only
 unfoldable pub Encoding-injective : Type 0
-Encoding-injective = (c : Code) (xs ys : List ℕ) → Accepted c → Message c xs → Message c ys → encoded c xs ≡ encoded c ys → xs ≡ ys
+Encoding-injective = (s : Shape) (xs ys : List ℕ) → Family s → Message s xs → Message s ys → encoded s xs ≡ encoded s ys → xs ≡ ys
 
 -- just one message fits; just one codeword agrees
-pub record One-fits (c : Code) (ws ms xs : List ℕ) : Type 0 where
-  pub fit : fits c ws ms xs ≡ true
-  pub only : (ys : List ℕ) → fits c ws ms ys ≡ true → ys ≡ xs
+pub record One-fits (s : Shape) (ws ms xs : List ℕ) : Type 0 where
+  pub fit : fits s ws ms xs ≡ true
+  pub only : (ys : List ℕ) → fits s ws ms ys ≡ true → ys ≡ xs
 
-pub record One-agrees (c : Code) (ws ms cs : List ℕ) : Type 0 where
-  pub codeword : Codeword c cs
-  pub agree : agrees c cs ws ms ≡ true
-  pub only : (ds : List ℕ) → Codeword c ds → agrees c ds ws ms ≡ true → ds ≡ cs
+pub record One-agrees (s : Shape) (ws ms cs : List ℕ) : Type 0 where
+  pub codeword : Codeword s cs
+  pub agree : agrees s cs ws ms ≡ true
+  pub only : (ds : List ℕ) → Codeword s ds → agrees s ds ws ms ≡ true → ds ≡ cs
 
 -- the two are one statement, and so are "none" and "none", "two different" and "two different"
-pub record Bridge (c : Code) (ws ms : List ℕ) : Type 0 where
-  pub one : (xs : List ℕ) → One-fits c ws ms xs → One-agrees c ws ms (encoded c xs)
-  pub one-back : (xs : List ℕ) → Message c xs → One-agrees c ws ms (encoded c xs) → One-fits c ws ms xs
-  pub none : ((xs : List ℕ) → fits c ws ms xs ≡ true → ⊥) → (ds : List ℕ) → Codeword c ds → agrees c ds ws ms ≡ true → ⊥
-  pub none-back : ((ds : List ℕ) → Codeword c ds → agrees c ds ws ms ≡ true → ⊥) → (xs : List ℕ) → fits c ws ms xs ≡ true → ⊥
-  pub two : (xs ys : List ℕ) → fits c ws ms xs ≡ true → fits c ws ms ys ≡ true → xs ≢ ys → encoded c xs ≢ encoded c ys
-  pub two-back : (ds es : List ℕ) (d : Codeword c ds) (e : Codeword c es) → agrees c ds ws ms ≡ true → agrees c es ws ms ≡ true → ds ≢ es
-      → (fits c ws ms (d .message) ≡ true) × (fits c ws ms (e .message) ≡ true) × (d .message ≢ e .message)
+pub record Bridge (s : Shape) (ws ms : List ℕ) : Type 0 where
+  pub one : (xs : List ℕ) → One-fits s ws ms xs → One-agrees s ws ms (encoded s xs)
+  pub one-back : (xs : List ℕ) → Message s xs → One-agrees s ws ms (encoded s xs) → One-fits s ws ms xs
+  pub none : ((xs : List ℕ) → fits s ws ms xs ≡ true → ⊥) → (ds : List ℕ) → Codeword s ds → agrees s ds ws ms ≡ true → ⊥
+  pub none-back : ((ds : List ℕ) → Codeword s ds → agrees s ds ws ms ≡ true → ⊥) → (xs : List ℕ) → fits s ws ms xs ≡ true → ⊥
+  pub two : (xs ys : List ℕ) → fits s ws ms xs ≡ true → fits s ws ms ys ≡ true → xs ≢ ys → encoded s xs ≢ encoded s ys
+  pub two-back : (ds es : List ℕ) (d : Codeword s ds) (e : Codeword s es) → agrees s ds ws ms ≡ true → agrees s es ws ms ≡ true → ds ≢ es
+      → (fits s ws ms (d .message) ≡ true) × (fits s ws ms (e .message) ≡ true) × (d .message ≢ e .message)
 
 unfoldable pub Bridges : Type 0
-Bridges = (c : Code) (ws ms : List ℕ) → Accepted c → Bridge c ws ms
+Bridges = (s : Shape) (ws ms : List ℕ) → Family s → Bridge s ws ms
+
+-- any r places of a group, of slots and of zeros behind them, tell its other places
+unfoldable pub Groups-tell : Type 0
+Groups-tell =
+    (s : Shape) (xs ys : List ℕ) (j : ℕ) (os : List ℕ) → Family s → Message s xs → Message s ys → length os ≡ s .r → Distinct os
+    → Each (λ o. (o < room s) × (group s o ≡ j) × (symbol s xs o ≡ symbol s ys o)) os
+    → (p : ℕ) → p < room s → group s p ≡ j → symbol s xs p ≡ symbol s ys p
+
+-- and the polynomial through them gives the codeword's symbol
+unfoldable pub Restores : Type 0
+Restores =
+    (s : Shape) (xs : List ℕ) (os : List ℕ) (p : ℕ) → Family s → Message s xs → p < s .n → length os ≡ s .r → Distinct os
+    → Each (λ o. (o < room s) × (group s o ≡ group s p)) os
+    → restored s os os p (map (symbol s xs) os) ≡ at (encoded s xs) p
+
+-- where one loss is all that a group stands, its mates alone do
+unfoldable pub Repairs-back : Type 0
+Repairs-back =
+    (s : Shape) (xs : List ℕ) (p : ℕ) → Family s → s .tolerance ≡ 1 → Message s xs → p < s .n
+    → repaired s p (symbols-of (encoded s xs) (mates s p)) ≡ at (encoded s xs) p
+
+-- a column of strips that holds a codeword's symbols at the mates is rebuilt to the codeword's symbol, whatever the other columns hold
+unfoldable pub Strip-restores : Type 0
+Strip-restores =
+    (s : Shape) (xs : List ℕ) (p l i : ℕ) (strips : List ℕ) → Family s → s .tolerance ≡ 1 → Message s xs → p < s .n → i < l
+    → column (length (mates s p)) l i strips ≡ symbols-of (encoded s xs) (mates s p) → at (strip s p l strips) i ≡ at (encoded s xs) p
+
+-- the local pass leaves a codeword's symbol in every slot that it mends, if the group's kept slots hold the codeword's
+unfoldable pub Pass-mends : Type 0
+Pass-mends =
+    (s : Shape) (xs ws ms : List ℕ) (p : ℕ) → Family s → Message s xs → p < s .n → mends s ms p ≡ true
+    → symbols-of ws (kept-places s ms (group s p)) ≡ symbols-of (encoded s xs) (kept-places s ms (group s p))
+    → at (passed s ws ms) p ≡ at (encoded s xs) p
+
+-- the same codewords agree with the kept symbols before and after the local pass, whatever the word
+unfoldable pub Before-and-after : Type 0
+Before-and-after =
+    (s : Shape) (ws ms xs : List ℕ) → Family s → length ws ≡ s .n → fits s ws ms xs ≡ fits s (passed s ws ms) (marks-after s ms) xs
+
+-- weights of mates give the slot's value of every polynomial of r coefficients that is 0 at the places behind the slots
+unfoldable pub Weights-law : Type 0
+Weights-law =
+    (s : Shape) (p : ℕ) (cs : List ℕ) → Placed s → s .tolerance ≡ 1 → p < s .n → length cs ≡ s .r → all-below (q (s .field)) cs ≡ true
+    → ((o : ℕ) → In o (others s p) → s .n ≤ o → poly (s .field) cs (point s o) ≡ 0)
+    → dotted (s .field) (weights s p) (map (λ m. poly (s .field) cs (point s m)) (mates s p)) ≡ poly (s .field) cs (point s p)
+
+-- the polynomial with r coefficients through the mates' symbols, whatever they are, and 0 at the places behind the slots
+pub record Through (s : Shape) (p : ℕ) (xs : List ℕ) (cs : List ℕ) : Type 0 where
+  pub few : length cs ≡ s .r
+  pub below : all-below (q (s .field)) cs ≡ true
+  pub is : map (λ m. poly (s .field) cs (point s m)) (mates s p) ≡ xs
+  pub zeros : (o : ℕ) → In o (others s p) → s .n ≤ o → poly (s .field) cs (point s o) ≡ 0
+
+-- there is just one, and repair answers its value at the slot's point
+pub record Interpolates (s : Shape) (p : ℕ) (xs : List ℕ) : Type 0 where
+  pub coefs : List ℕ
+  pub through : Through s p xs coefs
+  pub only : (cs : List ℕ) → Through s p xs cs → cs ≡ coefs
+  pub answer : repaired s p xs ≡ poly (s .field) coefs (point s p)
+
+unfoldable pub Repair-interpolates : Type 0
+Repair-interpolates =
+    (s : Shape) (p : ℕ) (xs : List ℕ) → Placed s → s .tolerance ≡ 1 → p < s .n → length xs ≡ length (mates s p)
+    → all-below (q (s .field)) xs ≡ true → Interpolates s p xs
+
+-- short groups and either wiring included
+unfoldable pub Weights-are : Type 0
+Weights-are =
+    (s : Shape) (p : ℕ) → Placed s → s .tolerance ≡ 1 → p < s .n
+    → weights s p ≡ map (λ m. minus (s .field) 0 (times (s .field) (point s m) (inverse (s .field) (point s p)))) (mates s p)
 
 pub record Promises : Type 0 where
+  pub families : Families
   pub points-differ : Points-differ
   pub group-power : Group-power
   pub exponents-are : Exponents-are
+  pub shared-are : Shared-are
+  pub code-numbers : Code-numbers
   pub symbols-below : Symbols-below
   pub low-degree : Low-degree
   pub far-apart : Far-apart
-  pub groups-tell : Groups-tell
   pub decodes-back : Decodes-back
+  pub encoding-injective : Encoding-injective
+  pub bridges : Bridges
+  pub groups-tell : Groups-tell
+  pub restores : Restores
   pub repairs-back : Repairs-back
   pub strip-restores : Strip-restores
   pub pass-mends : Pass-mends
+  pub before-and-after : Before-and-after
   pub weights-law : Weights-law
   pub repair-interpolates : Repair-interpolates
   pub weights-are : Weights-are
-  pub encoding-injective : Encoding-injective
-  pub bridges : Bridges

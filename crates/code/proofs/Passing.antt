@@ -1,0 +1,148 @@
+-- The local pass: the places of a group that are kept, and what it leaves in a slot that it mends. Assumes nothing.
+--   length-kept, kept-distinct, kept-are, kept-kept    the kept places of a group
+--   sources-enough                          a group that stands keeps r of them
+--   pass-mends                              Pass-mends of specs/Promise.antt
+use mathlib.Core.Path.{_≡_, refl, sym, ap, ap₂, _∙_}
+use mathlib.Core.Logic.{_≢_}
+use mathlib.Core.Bool.{Bool, true, false, cond, _&&_}
+use mathlib.Core.List.{List, _∷_}
+use Prim.Native.Nat.{ℕ, zero, suc, _+_, _≤_, _<_}
+use native.Mathlib.Nat.{add-zero, add-suc, suc-add, zero-add}
+use native.Mathlib.Decide.{decLt}
+use native.Mathlib.Omega.{arith}
+use lib.Dec.{T, leb, leb→le, le→leb, eqb, eqb-refl}
+use lib.ListN.{length, take}
+use lib.Seq.{length-take-le}
+use Rattle.algebra.specs.Sequence.{at, count, every, Each, Distinct}
+use Rattle.algebra.proofs.Sequence.{so, yes-true, every-intro, and-left, and-right, each-intro, each-at, each-of-map, map-each, at-tabulate, at-past}
+use Rattle.algebra.proofs.Counting.{count-zero, count-some}
+use Rattle.field.specs.Field.{q}
+use Rattle.code.specs.declared.Shape.{Shape}
+use Rattle.code.specs.Shape.{size, groups, room, group, member, slot-at}
+use Rattle.code.specs.Codeword.{symbol, encoded}
+use Rattle.code.specs.Decoding.{lost}
+use Rattle.code.specs.Erasure.{group-losses, stands}
+use Rattle.code.specs.Repair.{restored, symbols-of}
+use Rattle.code.specs.Pass.{kept-from, kept-places, sources, mendable, mends, mend, passed}
+use Rattle.code.specs.Laws.{Placed, Family}
+use Rattle.code.specs.Promise.{Pass-mends}
+use Rattle.code.proofs.Places.{n-room, group-below, member-below, slot-below, slot-group-member, group-slot-at, slot-at-injective}
+use Rattle.code.proofs.Codewords.{Message-is, message-is, length-encoded, at-encoded}
+use Rattle.code.proofs.Fronts.{each-take, in-take, distinct-take}
+use Rattle.code.proofs.Distance.{symbol-behind}
+use Rattle.code.proofs.Repairing.{restores-place}
+
+module _ (s : Shape) (P : Placed s) (ms : List ℕ) (j : ℕ) where
+  gone : ℕ → Bool
+  gone i = lost ms (slot-at s j i)
+
+  each-from : (Q : ℕ → Type 0) (l i : ℕ) → ((m : ℕ) → i ≤ m → m < i + l → lost ms (slot-at s j m) ≡ false → Q (slot-at s j m))
+      → Each Q (kept-from s ms l i j)
+  unfolding kept-from
+  each-from Q zero i h = tt
+  each-from Q (suc l) i h =
+      go (lost ms (slot-at s j i)) refl (kept-from s ms l (suc i) j) (each-from Q l (suc i) (λ m a b. h m (omega arith) (omega arith)))
+    where
+      go : (b : Bool) → lost ms (slot-at s j i) ≡ b → (os : List ℕ) → Each Q os → Each Q (cond b os (slot-at s j i ∷ os))
+      go true k os e = e
+      go false k os e = (h i (omega arith) (omega arith) k, e)
+
+  distinct-from : (l i : ℕ) → Distinct (kept-from s ms l i j)
+  unfolding kept-from
+  distinct-from zero i = tt
+  distinct-from (suc l) i =
+      go (lost ms (slot-at s j i)) (kept-from s ms l (suc i) j)
+      (each-from (λ o. o ≢ slot-at s j i) l (suc i) (λ m a b k e. later m a (slot-at-injective s P j m i e))) (distinct-from l (suc i))
+    where
+      later : (m : ℕ) → suc i ≤ m → m ≢ i
+      later m a e = omega arith
+
+      go : (b : Bool) (os : List ℕ) → Each (λ o. o ≢ slot-at s j i) os → Distinct os → Distinct (cond b os (slot-at s j i ∷ os))
+      go true os e d = d
+      go false os e d = (e, d)
+
+  length-from : (l i : ℕ) → length (kept-from s ms l i j) + count gone (i + l) ≡ l + count gone i
+  unfolding kept-from count gone
+  length-from zero i = omega (arith, ap (count gone) (add-zero i))
+  length-from (suc l) i =
+      go (lost ms (slot-at s j i)) (kept-from s ms l (suc i) j) (count-next (lost ms (slot-at s j i)) refl) (length-from l (suc i))
+    where
+      count-next : (b : Bool) → gone i ≡ b → count gone (suc i) ≡ cond b 1 0 + count gone i
+      count-next b p = ap (λ c. cond c 1 0 + count gone i) p
+
+      go : (b : Bool) (os : List ℕ) → count gone (suc i) ≡ cond b 1 0 + count gone i → length os + count gone (suc i + l) ≡ l + count gone (suc i)
+          → length (cond b os (slot-at s j i ∷ os)) + count gone (i + suc l) ≡ suc l + count gone i
+      go true os c e = omega (arith, ap (count gone) (add-suc i l ∙ sym (suc-add i l)))
+      go false os c e = omega (arith, ap (count gone) (add-suc i l ∙ sym (suc-add i l)))
+
+  pub length-kept : length (kept-places s ms j) + group-losses s j ms ≡ size s
+  unfolding kept-places group-losses gone
+  length-kept = omega (arith, length-from (size s) 0, count-zero gone, ap (count gone) (zero-add (size s)))
+
+  pub kept-distinct : Distinct (kept-places s ms j)
+  unfolding kept-places
+  kept-distinct = distinct-from (size s) 0
+
+  pub kept-are : j < groups s → Each (λ o. (o < room s) × (group s o ≡ j)) (kept-places s ms j)
+  unfolding kept-places
+  kept-are h =
+      each-from (λ o. (o < room s) × (group s o ≡ j)) (size s) 0
+      (λ m a b k. let l : m < size s = omega arith in (slot-below s P j m h l, group-slot-at s P j m h l))
+
+  pub kept-kept : Each (λ o. lost ms o ≡ false) (kept-places s ms j)
+  unfolding kept-places
+  kept-kept = each-from (λ o. lost ms o ≡ false) (size s) 0 (λ m a b k. k)
+
+  pub sources-enough : T (stands s ms j) → length (sources s ms j) ≡ s .r
+  unfolding sources stands size
+  sources-enough t =
+      length-take-le (s .r) (kept-places s ms j) (omega (arith, length-kept, leb→le (group-losses s j ms) (s .tolerance) t))
+
+-- a codeword's entry at any place: 0 behind the slots
+pub entry-is : (s : Shape) (F : Family s) (xs : List ℕ) → Message-is s xs → (o : ℕ) → o < room s → at (encoded s xs) o ≡ symbol s xs o
+entry-is s F xs M o h = go (decLt o (s .n))
+  where
+    go : Dec (o < s .n) → at (encoded s xs) o ≡ symbol s xs o
+    go (yes l) = at-encoded s xs o l
+    go (no l) = at-past (encoded s xs) o (omega (arith, length-encoded s xs)) ∙ sym (symbol-behind s F xs M o (omega arith) h)
+
+module _ (s : Shape) (F : Family s) (xs ws ms : List ℕ) (M : Message-is s xs) (p : ℕ) (h : p < s .n) where
+  abbrev j : ℕ
+  j = group s p
+
+  roomy : p < room s
+  roomy = omega (arith, n-room s (F .placed))
+
+  pub mend-restores : T (stands s ms (group s p))
+      → symbols-of ws (kept-places s ms (group s p)) ≡ symbols-of (encoded s xs) (kept-places s ms (group s p)) → mend s ws ms p ≡ at (encoded s xs) p
+  unfolding mend sources symbols-of
+  mend-restores t e =
+      let P = F .placed in
+      let os = kept-places s ms j in
+      let inside = kept-are s P ms j (group-below s P p roomy) in
+      let given = each-of-map (at ws) (at (encoded s xs)) os e in
+      ap (restored s (take (s .r) os) (take (s .r) os) p)
+      (map-each (at ws) (symbol s xs) (take (s .r) os)
+      (each-intro (λ o. at ws o ≡ symbol s xs o) (take (s .r) os)
+      (λ o i. let k = in-take (s .r) os i in
+      each-at (λ o. at ws o ≡ at (encoded s xs) o) given k
+      ∙ entry-is s F xs M o (each-at (λ o. (o < room s) × (group s o ≡ j)) inside k .0))))
+      ∙ restores-place s F xs M p roomy (take (s .r) os) (sources-enough s P ms j t) (distinct-take (s .r) os (kept-distinct s P ms j))
+      (each-take (λ o. (o < room s) × (group s o ≡ j)) (s .r) os inside)
+      ∙ sym (at-encoded s xs p h)
+
+pub mends-stands : (s : Shape) (ms : List ℕ) (p : ℕ) → mends s ms p ≡ true → T (stands s ms (group s p))
+unfolding mends mendable
+mends-stands s ms p e =
+    let j : ℕ = group s p in
+    let a = leb 1 (group-losses s j ms) in
+    let b = stands s ms j in
+    and-right a b (and-right (lost ms p) (a && b) (so e))
+
+pub pass-mends : Pass-mends
+unfolding Pass-mends passed
+pass-mends s xs ws ms p F m h mended e =
+    at-tabulate (λ p. cond (mends s ms p) (mend s ws ms p) (at ws p)) 0 (s .n) p h
+    ∙ ap (λ b. cond b (mend s ws ms p) (at ws p)) mended
+    ∙ mend-restores s F xs ws ms (message-is s xs m) p h (mends-stands s ms p mended) e
+

@@ -1,0 +1,39 @@
+-- The codes of the paper: their numbers, the shape that they mean, and the questions on the numbers. Assumes nothing: these are definitions.
+--   code-of         the code of four numbers
+--   single c        its shape: groups of r + 1 that stand one loss, one after the other
+--   code-refusal    questions 1 to 4, in order
+use mathlib.Core.Bool.{Bool, _&&_}
+use Prim.Native.Nat.{ℕ, _*_, _-_, _%_}
+use lib.Dec.{leb, eqb}
+use Rattle.field.specs.Field.{q}
+use Rattle.code.specs.declared.Code.{Code}
+use Rattle.code.specs.declared.Shape.{Shape}
+use Rattle.code.specs.Question.{ask}
+use Rattle.code.specs.Shape.{size, groups}
+
+abbrev pub code-of : (field r n k : ℕ) → Code
+code-of f r n k = record { field = f; r = r; n = n; k = k }
+
+abbrev pub single : Code → Shape
+single c = record { field = c .field; r = c .r; n = c .n; k = c .k; wiring = 0; tolerance = 1; second = 0 }
+
+-- 1: is the field 0 or 1?
+unfoldable pub field-known : Shape → Bool
+field-known s = leb (s .field) 1
+
+-- 2: is r from 1 on, the group size at most 17, and does it divide q - 1?
+unfoldable pub r-fits : Shape → Bool
+r-fits s = (leb 1 (s .r) && leb (size s) 17) && eqb ((q (s .field) - 1) % size s) 0
+
+-- 3: is n a multiple of the group size, from one group to q - 1?
+unfoldable pub n-fits : Shape → Bool
+n-fits s = eqb (s .n % size s) 0 && (leb (size s) (s .n) && leb (s .n) (q (s .field) - 1))
+
+-- 4: is k from 1 to r times the number of groups?
+unfoldable pub k-fits : Shape → Bool
+k-fits s = leb 1 (s .k) && leb (s .k) (s .r * groups s)
+
+unfoldable pub code-refusal : Code → ℕ
+code-refusal c =
+    let s = single c in
+    ask (field-known s) 1 (ask (r-fits s) 2 (ask (n-fits s) 3 (ask (k-fits s) 4 0)))
