@@ -1,8 +1,8 @@
 -- What questions 1 to 4 say of an accepted code: its shape is a plain family. Assumes nothing.
---   asked          a question that is passed, and the questions after it
 --   Good s         the facts behind refusal 0; good: an accepted code's shape has them
 --   placed-of, whole-of, k-of    what follows of places and of k
---   families       Families of specs/Promise.antt; plain-of is its other name
+--   plain-of, decodable-of, mending-of, mending    what an accepted code's shape is
+--   families       Families of specs/Promise.antt
 use mathlib.Core.Path.{_≡_, refl, sym, ap, _∙_}
 use mathlib.Core.Bool.{Bool, true, false, _&&_}
 use Prim.Native.Nat.{ℕ, suc, _+_, _*_, _-_, _/_, _%_, _≤_, _<_}
@@ -18,14 +18,10 @@ use Rattle.code.specs.declared.Shape.{Shape}
 use Rattle.code.specs.Question.{ask}
 use Rattle.code.specs.Shape.{ceiling, size, groups, room, missing, whole, wired}
 use Rattle.code.specs.Family.{single, field-known, r-fits, n-fits, k-fits, code-refusal}
-use Rattle.code.specs.Laws.{Placed, Family, Plain}
+use Rattle.code.specs.Laws.{Placed, Plain, Mending, Decodable}
 use Rattle.code.specs.Promise.{Families}
+use Rattle.code.proofs.Questions.{asked}
 use Rattle.code.proofs.Grouped.{grouped-whole}
-
-pub asked : (b : Bool) (m n : ℕ) → ask b (suc m) n ≡ 0 → T b × (n ≡ 0)
-unfolding ask
-asked true m n e = (tt, e)
-asked false m n e = omega arith
 
 pub record Good (s : Shape) : Type 0 where
   pub field-most : s .field ≤ 1
@@ -36,7 +32,7 @@ pub record Good (s : Shape) : Type 0 where
   pub n-least : size s ≤ s .n
   pub n-most : s .n ≤ q (s .field) - 1
   pub k-least : 1 ≤ s .k
-  pub k-most : s .k ≤ s .r * groups s
+  pub k-most : s .k ≤ s .r * (s .n / size s)
 
 pub good : (c : Code) → code-refusal c ≡ 0 → Good (single c)
 unfolding code-refusal field-known r-fits n-fits k-fits
@@ -54,7 +50,7 @@ good c e =
     let n₂ = leb g (s .n) in
     let n₃ = leb (s .n) w in
     let k₁ = leb 1 (s .k) in
-    let k₂ = leb (s .k) (s .r * groups s) in
+    let k₂ = leb (s .k) (s .r * (s .n / size s)) in
     let rs = and-left (r₁ && r₂) (eqb (w % g) 0) (t₂ .0) in
     let ns = and-right n₁ (n₂ && n₃) (t₃ .0) in
     record {
@@ -66,7 +62,7 @@ good c e =
       n-least = leb→le g (s .n) (and-left n₂ n₃ ns);
       n-most = leb→le (s .n) w (and-right n₂ n₃ ns);
       k-least = leb→le 1 (s .k) (and-left k₁ k₂ (t₄ .0));
-      k-most = leb→le (s .k) (s .r * groups s) (and-right k₁ k₂ (t₄ .0));
+      k-most = leb→le (s .k) (s .r * (s .n / size s)) (and-right k₁ k₂ (t₄ .0));
     }
 
 module _ (s : Shape) (G : Good s) where
@@ -93,7 +89,7 @@ module _ (s : Shape) (G : Good s) where
 
   pub k-of : s .k + s .tolerance * groups s ≤ s .n
   unfolding room size
-  k-of = omega (arith, room-whole, G .k-most)
+  k-of = omega (arith, room-whole, G .k-most, ap (λ n. s .r * n) groups-whole)
 
   pub placed-of : 1 ≤ s .tolerance → Placed s
   placed-of one =
@@ -118,6 +114,16 @@ plain-of c e =
       whole-groups = whole-of s G;
       second-none = refl;
     }
+
+pub decodable-of : (c : Code) → code-refusal c ≡ 0 → Decodable (single c)
+unfolding wired
+decodable-of c e = record { plain = plain-of c e; one = refl; unwired = refl }
+
+pub mending : (s : Shape) → Decodable s → Mending s
+mending s D = record { placed = D .plain .family .placed; one = D .one; whole-groups = D .plain .whole-groups }
+
+pub mending-of : (c : Code) → code-refusal c ≡ 0 → Mending (single c)
+mending-of c e = mending (single c) (decodable-of c e)
 
 pub families : Families
 unfolding Families

@@ -1,4 +1,4 @@
-pub mod Chain
+pub mod Questions
 pub mod Answers
 pub mod Fronts
 pub mod Counted

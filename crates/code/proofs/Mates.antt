@@ -1,8 +1,9 @@
 -- A slot's mates: the other members of its group that are slots, and behind them those that are none. Assumes nothing.
 --   member-slot                  a member of a group is a slot just where it is below members
 --   members-whole                all of a whole group are
---   length-mates, mates-distinct, mate-other, mate-below, mates-behind
+--   length-mates, mates-distinct, mate-other, mates-below, mate-below, mates-behind
 --   mates-before, mates-after    mate i is member i of the group, or i + 1 from the slot on
+--   mates-number                 there are r where groups are whole and stand one loss
 --   length-symbols, at-symbols   a word's symbols at some slots
 use mathlib.Core.Path.{_≡_, _∙_}
 use mathlib.Core.Bool.{Bool, true}
@@ -19,8 +20,8 @@ use Rattle.algebra.proofs.Leading.{leading-in, leading-out}
 use Rattle.code.specs.declared.Shape.{Shape}
 use Rattle.code.specs.Shape.{size, groups, room, whole, group, member, members, slot-at, others, mates}
 use Rattle.code.specs.Repair.{symbols-of}
-use Rattle.code.specs.Laws.{Placed}
-use Rattle.code.proofs.Places.{n-room, member-below, slot-below, slot-group-member, slot-at-later, whole-room}
+use Rattle.code.specs.Laws.{Placed, Mending}
+use Rattle.code.proofs.Places.{n-room, group-below, member-below, slot-below, slot-group-member, slot-at-later, whole-room}
 use Rattle.code.proofs.Fronts.{each-of-index, in-take, distinct-take}
 use Rattle.code.proofs.Others.{length-others, others-distinct, others-before, others-after}
 
@@ -91,7 +92,7 @@ module _ (s : Shape) (P : Placed s) where
     mates-after i h l =
         getD-take (members s j - 1) (others s p) i 0 (omega (arith, member-own)) ∙ others-after s P p roomy i h (omega (arith, members-most j))
 
-    mates-below : Each (λ m. m < s .n) (mates s p)
+    pub mates-below : Each (λ m. m < s .n) (mates s p)
     mates-below = each-of-index (λ m. m < s .n) (mates s p) (λ i l. go i (omega (arith, length-mates)) (decLt i (member s p)))
       where
         go : (i : ℕ) → suc i < members s j → Dec (i < member s p) → at (mates s p) i < s .n
@@ -122,3 +123,10 @@ length-symbols ws ps = length-map ps (at ws)
 pub at-symbols : (ws ps : List ℕ) (i : ℕ) → i < length ps → at (symbols-of ws ps) i ≡ at ws (at ps i)
 unfolding symbols-of
 at-symbols ws ps i h = at-map (at ws) ps i h
+
+-- in a whole group that stands one loss there are r
+pub mates-number : (s : Shape) → Mending s → (p : ℕ) → p < s .n → length (mates s p) ≡ s .r
+unfolding size
+mates-number s M p h =
+    let P = M .placed in
+    omega (arith, length-mates s P p h, members-whole s P (group s p) (group-below s P p (omega (arith, n-room s P))) (M .whole-groups), M .one)

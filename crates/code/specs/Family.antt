@@ -3,13 +3,13 @@
 --   single c        its shape: groups of r + 1 that stand one loss, one after the other
 --   code-refusal    questions 1 to 4, in order
 use mathlib.Core.Bool.{Bool, _&&_}
-use Prim.Native.Nat.{ℕ, _*_, _-_, _%_}
+use Prim.Native.Nat.{ℕ, _*_, _-_, _/_, _%_}
 use lib.Dec.{leb, eqb}
 use Rattle.field.specs.Field.{q}
 use Rattle.code.specs.declared.Code.{Code}
 use Rattle.code.specs.declared.Shape.{Shape}
 use Rattle.code.specs.Question.{ask}
-use Rattle.code.specs.Shape.{size, groups}
+use Rattle.code.specs.Shape.{size}
 
 abbrev pub code-of : (field r n k : ℕ) → Code
 code-of f r n k = record { field = f; r = r; n = n; k = k }
@@ -29,9 +29,9 @@ r-fits s = (leb 1 (s .r) && leb (size s) 17) && eqb ((q (s .field) - 1) % size s
 unfoldable pub n-fits : Shape → Bool
 n-fits s = eqb (s .n % size s) 0 && (leb (size s) (s .n) && leb (s .n) (q (s .field) - 1))
 
--- 4: is k from 1 to r times the number of groups?
+-- 4: is k from 1 to r × n/(r + 1)?
 unfoldable pub k-fits : Shape → Bool
-k-fits s = leb 1 (s .k) && leb (s .k) (s .r * groups s)
+k-fits s = leb 1 (s .k) && leb (s .k) (s .r * (s .n / size s))
 
 unfoldable pub code-refusal : Code → ℕ
 code-refusal c =

@@ -3,8 +3,10 @@
 --   Polynomial    a function of the field is a polynomial of at most l coefficients
 --   Family s      four laws of the basis polynomials: degree, independence, zeros behind the slots, r coefficients on a group
 --   Plain s       a family of whole groups without a second size: message symbol m goes with X to the power exponent m
+--   Mending s     whole groups that the repair of one slot mends
+--   Decodable s   a plain family whose groups mend themselves so, and stand one after the other
 use mathlib.Core.Path.{_≡_}
-use mathlib.Core.Bool.{true}
+use mathlib.Core.Bool.{true, false}
 use mathlib.Core.List.{List}
 use Prim.Native.Nat.{ℕ, _+_, _*_, _-_, _%_, _≤_, _<_}
 use lib.ListN.{length}
@@ -54,3 +56,13 @@ pub record Plain (s : Shape) : Type 0 where
   pub k-most : s .k + s .tolerance * groups s ≤ s .n
   pub whole-groups : whole s ≡ true
   pub second-none : s .second ≡ 0
+
+pub record Mending (s : Shape) : Type 0 where
+  pub placed : Placed s
+  pub one : s .tolerance ≡ 1
+  pub whole-groups : whole s ≡ true
+
+pub record Decodable (s : Shape) : Type 0 where
+  pub plain : Plain s
+  pub one : s .tolerance ≡ 1
+  pub unwired : wired s ≡ false

@@ -1,0 +1,84 @@
+-- Numbers of the layout that its functions work out. Assumes nothing.
+--   wired-yes, wired-no    what the wiring says
+--   group-is, member-is, first-is, step-is, slot-is    the definitions over numbers that were worked out
+--   power-below            the exponent of a member's point is below q - 1
+--   mate-size, mate-is, mate-slot    a mate by its member
+use mathlib.Core.Path.{_≡_, sym, ap, ap₂, _∙_}
+use mathlib.Core.Logic.{_≢_}
+use mathlib.Core.Bool.{Bool, true, false, cond}
+use Prim.Native.Nat.{ℕ, suc, _+_, _*_, _-_, _/_, _%_, _<_}
+use native.Mathlib.Decide.{decLt}
+use native.Mathlib.Omega.{arith}
+use borrow.Author.Tests.{eq-eqb, ne-eqb, lt-ltb, le-ltb}
+use lib.ListN.{length}
+use Rattle.algebra.specs.Sequence.{at}
+use Rattle.algebra.proofs.Sequence.{each-index}
+use Rattle.field.specs.Field.{q}
+use Rattle.code.specs.declared.Shape.{Shape}
+use Rattle.code.specs.Shape.{size, groups, wired, group, member, first, step, members, slot-at, mates}
+use Rattle.code.specs.Laws.{Placed}
+use Rattle.code.proofs.Places.{slot-below, group-slot-at, member-slot-at}
+use Rattle.code.proofs.Bounds.{room-byte}
+use Rattle.code.proofs.Points.{exponent-below}
+use Rattle.code.proofs.Mates.{members-most, length-mates, mates-before, mates-after, mates-below}
+use Rattle.layout.specs.Step.{mate-member}
+
+module _ (s : Shape) where
+  pub wired-yes : s .wiring ≡ 1 → wired s ≡ true
+  unfolding wired
+  wired-yes e = eq-eqb (s .wiring) 1 e
+
+  pub wired-no : s .wiring ≢ 1 → wired s ≡ false
+  unfolding wired
+  wired-no e = ne-eqb (s .wiring) 1 e
+
+  pub group-is : (b : Bool) → wired s ≡ b → (p g t : ℕ) → g ≡ groups s → t ≡ size s → cond b (p % g) (p / t) ≡ group s p
+  unfolding group
+  group-is b e p g t d z = ap₂ (λ g t. cond b (p % g) (p / t)) d z ∙ ap (λ b. cond b (p % groups s) (p / size s)) (sym e)
+
+  pub member-is : (b : Bool) → wired s ≡ b → (p g t : ℕ) → g ≡ groups s → t ≡ size s → cond b (p / g) (p % t) ≡ member s p
+  unfolding member
+  member-is b e p g t d z = ap₂ (λ g t. cond b (p / g) (p % t)) d z ∙ ap (λ b. cond b (p / groups s) (p % size s)) (sym e)
+
+  pub first-is : (b : Bool) → wired s ≡ b → (j t : ℕ) → t ≡ size s → cond b j (j * t) ≡ first s j
+  unfolding first
+  first-is b e j t z = ap (λ t. cond b j (j * t)) z ∙ ap (λ b. cond b j (j * size s)) (sym e)
+
+  pub step-is : (b : Bool) → wired s ≡ b → (g : ℕ) → g ≡ groups s → cond b g 1 ≡ step s
+  unfolding step
+  step-is b e g d = ap (λ g. cond {A = ℕ} b g 1) d ∙ ap (λ b. cond {A = ℕ} b (groups s) 1) (sym e)
+
+  pub slot-is : (j i f t : ℕ) → f ≡ first s j → t ≡ step s → f + i * t ≡ slot-at s j i
+  unfolding slot-at
+  slot-is j i f t e d = ap₂ (λ f t. f + i * t) e d
+
+module _ (s : Shape) (P : Placed s) where
+  pub slot-byte : (j i : ℕ) → j < groups s → i < size s → slot-at s j i < 255
+  slot-byte j i g h = omega (arith, slot-below s P j i g h, room-byte s P)
+
+  pub power-below : (j i : ℕ) → j < groups s → i < size s → j + i * ((q (s .field) - 1) / size s) < q (s .field) - 1
+  power-below j i g h =
+      rw (group-slot-at s P j i g h, member-slot-at s P j i g h) at (exponent-below s P (slot-at s j i) (slot-below s P j i g h))
+
+  module _ (p : ℕ) (h : p < s .n) (i : ℕ) (l : i < length (mates s p)) where
+    members-more : suc i < members s (group s p)
+    members-more = omega (arith, length-mates s P p h)
+
+    pub mate-size : mate-member (member s p) i < size s
+    unfolding mate-member
+    mate-size = go (decLt i (member s p))
+      where
+        go : Dec (i < member s p) → mate-member (member s p) i < size s
+        go (yes a) = rw (lt-ltb i (member s p) a) (omega (arith, members-more, members-most s P (group s p)))
+        go (no a) = rw (le-ltb i (member s p) (omega arith)) (omega (arith, members-more, members-most s P (group s p)))
+
+    pub mate-is : at (mates s p) i ≡ slot-at s (group s p) (mate-member (member s p) i)
+    unfolding mate-member
+    mate-is = go (decLt i (member s p))
+      where
+        go : Dec (i < member s p) → at (mates s p) i ≡ slot-at s (group s p) (mate-member (member s p) i)
+        go (yes a) = rw (lt-ltb i (member s p) a) (mates-before s P p h i a)
+        go (no a) = rw (le-ltb i (member s p) (omega arith)) (mates-after s P p h i (omega arith) members-more)
+
+    pub mate-slot : at (mates s p) i < s .n
+    mate-slot = each-index (λ m. m < s .n) (mates s p) (mates-below s P p h) i l
