@@ -18,3 +18,6 @@ pub mod Blocks
 pub mod Mixed
 pub mod Triangular
 pub mod Shortened
+pub mod Strands
+pub mod Folding
+pub mod Scattered

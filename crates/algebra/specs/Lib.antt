@@ -4,3 +4,4 @@ pub mod Polynomial
 pub mod Interpolation
 pub mod EvaluationCode
 pub mod Equations
+pub mod Strand

@@ -64,7 +64,7 @@ zeros-is s =
 pub value-below : (s : Shape) (x m : ℕ) (xs : List ℕ) → value-from s x m xs < q (s .field)
 unfolding value-from
 value-below s x m [] = omega (arith, laws (s .field) .two-below)
-value-below s x m (y ∷ ys) = laws (s .field) .plus-below (times (s .field) y (basis s m x)) (value-from s x (suc m) ys)
+value-below s x m (y ∷ ys) = laws (s .field) .plus-below _ _
 
 pub symbol-below : (s : Shape) (xs : List ℕ) (p : ℕ) → symbol s xs p < q (s .field)
 unfolding symbol value
@@ -86,7 +86,7 @@ none-from s x z m [] h t = refl
 none-from s x z m (y ∷ ys) h t =
     let f = s .field in
     let b = ltb→lt y (q f) (and-left (ltb y (q f)) (all-below (q f) ys) t) in
-    ap₂ (plus f) (ap (times f y) (z m (omega arith)) ∙ ap (λ e. e .0) (mul-nil (ring-of f) (y, b)))
+    ap₂ (plus f) (ap (times f y) (z _ (omega arith)) ∙ ap (λ e. e .0) (mul-nil (ring-of f) (y, b)))
     (none-from s x z (suc m) ys (omega arith) (and-right (ltb y (q f)) (all-below (q f) ys) t)) ∙ laws f .plus-zero 0 (zero-below f)
 
 pub value-none : (s : Shape) (xs : List ℕ) (x : ℕ) → Message-is s xs → ((m : ℕ) → m < s .k → basis s m x ≡ 0) → value s xs x ≡ 0

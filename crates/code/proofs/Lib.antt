@@ -1,4 +1,5 @@
 pub mod Questions
+pub mod Asking
 pub mod Answers
 pub mod Fronts
 pub mod Counted

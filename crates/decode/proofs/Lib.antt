@@ -1,2 +1,3 @@
 pub mod Refusals
 pub mod Replies
+pub mod Promises

@@ -1,2 +1,4 @@
 pub mod Decode
 pub mod Recording
+pub mod Promise
+pub mod Step

@@ -3,12 +3,13 @@
 --   blank             the record of a refusal: every field 0 and the outcome undecided
 --   Record-says       the record with decode's verdict, or on a refusal 1 to 8 the blank one and unchanged buffers
 use mathlib.Core.Path.{_≡_}
-use mathlib.Core.Logic.{_≢_}
 use mathlib.Core.List.{List}
 use Prim.Native.Nat.{ℕ, zero, suc}
 use lib.ListN.{length}
-use Rattle.code.specs.Erasure.{lost-number, guarantee, grade, first-broken}
+use Rattle.code.specs.Codeword.{guarantee}
+use Rattle.code.specs.Erasure.{lost-number, grade, first-broken}
 use Rattle.code.specs.declared.Code.{Code}
+use Rattle.code.specs.declared.Shape.{Shape}
 use Rattle.code.specs.Verdict.{Verdict}
 use Rattle.decode.specs.Decode.{decode-refusal, cleared}
 use Rattle.decode.specs.declared.Outcome.{Outcome}
@@ -21,10 +22,6 @@ outcome-number Decided = 0
 outcome-number Foreign = 9
 outcome-number Undecided = 10
 
--- the numbers that an outcome has
-abbrev pub Is-verdict : ℕ → Type 0
-Is-verdict x = x ≢ 0 → x ≢ 9 → x ≡ 10
-
 unfoldable pub blank : StripeRecord
 blank =
     record {
@@ -36,19 +33,19 @@ blank =
       outcome = Undecided;
     }
 
--- the numbers of a stripe
-pub record Numbers (c : Code) (ms : List ℕ) (x : StripeRecord) : Type 0 where
+-- the numbers of a stripe of the code c, whose shape is s
+pub record Numbers (c : Code) (s : Shape) (ms : List ℕ) (x : StripeRecord) : Type 0 where
   pub code : x .code ≡ c
-  pub lost : x .lost ≡ lost-number c ms
-  pub guarantee-is : x .guarantee ≡ guarantee c
-  pub grade-is : x .grade ≡ grade c ms
-  pub first : x .first ≡ first-broken c ms
+  pub lost : x .lost ≡ lost-number s ms
+  pub guarantee-is : x .guarantee ≡ guarantee s
+  pub grade-is : x .grade ≡ grade s ms
+  pub first : x .first ≡ first-broken s ms
 
-pub record Filled (c : Code) (ws ms : List ℕ) (x : Recorded) (a z w v : List ℕ) : Type 0 where
+pub record Filled (c : Code) (s : Shape) (ws ms : List ℕ) (x : Recorded) (a z w v : List ℕ) : Type 0 where
   pub refusal : x .refusal ≡ 0
-  pub numbers : Numbers c ms (x .record)
-  pub verdict : Verdict c ws ms a z (outcome-number (x .record .outcome))
-  pub work : v ≡ cleared c w
+  pub numbers : Numbers c s ms (x .record)
+  pub verdict : Verdict s ws ms a z (outcome-number (x .record .outcome))
+  pub work : v ≡ cleared s w
 
 pub record Refused (n : ℕ) (x : Recorded) (a z w v : List ℕ) : Type 0 where
   pub refusal : x .refusal ≡ n
@@ -56,9 +53,9 @@ pub record Refused (n : ℕ) (x : Recorded) (a z w v : List ℕ) : Type 0 where
   pub message : z ≡ a
   pub work : v ≡ w
 
-unfoldable pub Record-as : (refusal : ℕ) → Code → (word marks : List ℕ) → Recorded → (message message-now work work-now : List ℕ) → Type 0
-Record-as zero c ws ms x a z w v = Filled c ws ms x a z w v
-Record-as (suc n) c ws ms x a z w v = Refused (suc n) x a z w v
+unfoldable pub Record-as : (refusal : ℕ) → Code → Shape → (word marks : List ℕ) → Recorded → (message message-now work work-now : List ℕ) → Type 0
+Record-as zero c s ws ms x a z w v = Filled c s ws ms x a z w v
+Record-as (suc n) c s ws ms x a z w v = Refused (suc n) x a z w v
 
-unfoldable pub Record-says : Code → (word marks : List ℕ) → Recorded → (message message-now work work-now : List ℕ) → Type 0
-Record-says c ws ms x a z w v = Record-as (decode-refusal c ws ms (length a) (length w)) c ws ms x a z w v
+unfoldable pub Record-says : (refusal : ℕ) → Code → Shape → (word marks : List ℕ) → Recorded → (message message-now work work-now : List ℕ) → Type 0
+Record-says n c s ws ms x a z w v = Record-as (decode-refusal n s ws ms (length a) (length w)) c s ws ms x a z w v

@@ -10,10 +10,10 @@ use lib.Seq.{drop-cons, getD-take, length-take-le}
 use Rattle.algebra.specs.Sequence.{at}
 use Rattle.field.specs.Field.{plus, times}
 use Rattle.field.specs.Polynomial.{poly}
-use Rattle.encode.specs.Local.{Stepped, Values}
+use Rattle.encode.specs.Step.{Horner-step, Values-at}
 
 module _ (f r : ℕ) (cs xs : List ℕ) (l : ℕ) (h : r ≤ length cs) where
-  pub values-none : l ≤ 17 → Values f (drop r (take r cs)) xs l (replicate 17 0)
+  pub values-none : l ≤ 17 → Values-at f (drop r (take r cs)) xs l (replicate 17 0)
   unfolding poly
   values-none k =
       record {
@@ -22,7 +22,7 @@ module _ (f r : ℕ) (cs xs : List ℕ) (l : ℕ) (h : r ≤ length cs) where
             ∙ sym (ap (λ ds. poly f ds (at xs i)) (drop-of-length-le (take r cs) {i = r} (omega (arith, length-take-le r cs h))));
       }
 
-  pub values-more : (i : ℕ) (v z : List ℕ) → i < r → Stepped f (at cs i) xs l v z → Values f (drop (suc i) (take r cs)) xs l v → Values f (drop i (take r cs)) xs l z
+  pub values-more : (i : ℕ) (v z : List ℕ) → i < r → Horner-step f (at cs i) xs l v z → Values-at f (drop (suc i) (take r cs)) xs l v → Values-at f (drop i (take r cs)) xs l z
   unfolding poly
   values-more i v z b S W =
       record {

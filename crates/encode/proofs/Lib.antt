@@ -1,7 +1,5 @@
-pub mod Rows
 pub mod Refusal
-pub mod Folding
-pub mod Coefficients
+pub mod Local
 pub mod Horner
-pub mod Locals
-pub mod Slots
+pub mod Symbols
+pub mod Groups

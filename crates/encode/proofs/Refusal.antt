@@ -1,7 +1,8 @@
--- What a message that encode does not refuse satisfies. Assumes nothing.
---   Passed c ms l    the code is accepted, the buffers have their lengths, and the symbols are below q
---   passed           an encode that is not refused has these
-use mathlib.Core.Path.{_≡_}
+-- The questions of encode. Assumes nothing.
+--   asked-in-turn      they are asked one after another
+--   Passed n s ms l    no refusal n before, the buffers have their lengths, and the symbols are below q
+--   passed             an encode that is not refused has these
+use mathlib.Core.Path.{_≡_, ap, _∙_}
 use mathlib.Core.Bool.{_&&_}
 use mathlib.Core.List.{List}
 use Prim.Native.Nat.{ℕ}
@@ -10,29 +11,37 @@ use lib.ListN.{length}
 use Rattle.algebra.specs.Sequence.{all-below}
 use Rattle.algebra.proofs.Sequence.{and-left, and-right}
 use Rattle.field.specs.Field.{q}
-use Rattle.code.specs.Question.{ask}
-use Rattle.code.specs.Code.{code-refusal}
-use Rattle.code.specs.declared.Code.{Code}
-use Rattle.code.proofs.Accepted.{asked}
-use Rattle.code.proofs.Questions.{or-ask-passed}
+use Rattle.code.specs.Question.{ask, or-ask}
+use Rattle.code.specs.declared.Shape.{Shape}
+use Rattle.code.proofs.Questions.{ask-then, ask-and, asked, or-ask-passed}
 use Rattle.encode.specs.Encode.{encode-refusal}
 
-pub record Passed (c : Code) (ms : List ℕ) (l : ℕ) : Type 0 where
-  pub accepted : code-refusal c ≡ 0
-  pub size : length ms ≡ c .k
-  pub room : l ≡ c .n
-  pub below : T (all-below (q (c .field)) ms)
-
-pub passed : (c : Code) (ms : List ℕ) (l : ℕ) → encode-refusal c ms l ≡ 0 → Passed c ms l
+-- x is what the two questions numbered 5 leave
+pub asked-in-turn : (n : ℕ) (s : Shape) (ms : List ℕ) (l x : ℕ) → x ≡ or-ask (or-ask n (ask (eqb (length ms) (s .k)) 5 0)) (ask (eqb l (s .n)) 5 0)
+    → or-ask x (ask (all-below (q (s .field)) ms) 6 0) ≡ encode-refusal n s ms l
 unfolding encode-refusal
-passed c ms l e =
-    let sizes = eqb (length ms) (c .k) && eqb l (c .n) in
-    let six : ℕ = ask (all-below (q (c .field)) ms) 6 0 in
-    let o = or-ask-passed (code-refusal c) (ask sizes 5 six) e in
+asked-in-turn n s ms l x e =
+    let a = eqb (length ms) (s .k) in
+    let b = eqb l (s .n) in
+    let six : ℕ = ask (all-below (q (s .field)) ms) 6 0 in
+    ap (λ y. or-ask y six) e ∙ ask-then (or-ask n (ask a 5 0)) b 4 six ∙ ask-then n a 4 (ask b 5 six) ∙ ap (or-ask n) (ask-and a b 5 six)
+
+pub record Passed (n : ℕ) (s : Shape) (ms : List ℕ) (l : ℕ) : Type 0 where
+  pub accepted : n ≡ 0
+  pub size : length ms ≡ s .k
+  pub room : l ≡ s .n
+  pub below : T (all-below (q (s .field)) ms)
+
+pub passed : (n : ℕ) (s : Shape) (ms : List ℕ) (l : ℕ) → encode-refusal n s ms l ≡ 0 → Passed n s ms l
+unfolding encode-refusal
+passed n s ms l e =
+    let sizes = eqb (length ms) (s .k) && eqb l (s .n) in
+    let six : ℕ = ask (all-below (q (s .field)) ms) 6 0 in
+    let o = or-ask-passed n (ask sizes 5 six) e in
     let t = asked sizes 4 six (o .1) in
     record {
       accepted = o .0;
-      size = eqb→eq (length ms) (c .k) (and-left (eqb (length ms) (c .k)) (eqb l (c .n)) (t .0));
-      room = eqb→eq l (c .n) (and-right (eqb (length ms) (c .k)) (eqb l (c .n)) (t .0));
-      below = asked (all-below (q (c .field)) ms) 5 0 (t .1) .0;
+      size = eqb→eq (length ms) (s .k) (and-left (eqb (length ms) (s .k)) (eqb l (s .n)) (t .0));
+      room = eqb→eq l (s .n) (and-right (eqb (length ms) (s .k)) (eqb l (s .n)) (t .0));
+      below = asked (all-below (q (s .field)) ms) 5 0 (t .1) .0;
     }

@@ -1,68 +1,32 @@
-// Generator rows and encode.
+// The codeword of a message, group by group: a group's symbols are the values of its local polynomial at its points.
 ghost use mathlib.Core.Path.{_≡_};
 ghost use mathlib.Core.Bool.{true};
 ghost use Prim.Native.Nat.{_+_, _-_, _%_, _≤_, _<_};
 ghost use lib.ListN.{length, take};
-ghost use Rattle.algebra.specs.Sequence.{all-below};
-ghost use Rattle.field.specs.Field.{q, power, times};
-ghost use Rattle.field.specs.Polynomial.{poly};
 ghost use Rattle.field.specs.Table.{Powers, Logs};
-ghost use Rattle.code.specs.Code.{groups, code-refusal, point, exponent};
+ghost use Rattle.code.specs.Family.{single, code-refusal};
+ghost use Rattle.code.specs.Shape.{groups};
 ghost use Rattle.code.specs.Codeword.{is-message, encoded};
-ghost use Rattle.encode.specs.Encode.{Row, encode-refusal, Encode-says};
-ghost use Rattle.encode.specs.Local.{local, Points, Stepped, Values, Group-written};
+ghost use Rattle.code.specs.Laws.{Placed, Plain};
+ghost use Rattle.encode.specs.Encode.{encode-refusal, Encode-says};
+ghost use Rattle.encode.specs.Step.{local-coefs, Group-points, Horner-step, Values-at, Group-symbols, Group-written};
 use code::Code;
+use code::Shape;
 
-// The value of basis polynomial m + 1 at x, from that of basis polynomial m.
-fn next_basis(code: Code, x: u8, value: u8, m: u32, powers: &[u8; 255], logs: &[u8; 256]) -> u8
-    requires { ⌜ Powers 1 (now powers) × Logs (now logs) × (code-refusal code ≡ 0) × (m < code .k) × (value ≡ power (code .field) x (exponent code m)) ⌝ }
-    ensures { λ z. ⌜ z ≡ power (code .field) x (exponent code (m + 1)) ⌝ }
+// Questions 5 and 6 after the refusal of those before; length is that of the codeword's buffer.
+fn encode_refusal(refusal: u32, shape: Shape, message: &[u8], length: usize) -> u32
+    ensures { λ x. ⌜ x ≡ encode-refusal refusal shape (now (message .entry)) length ⌝ }
 {
-    let field = code.field;
-    let r = code.r;
-    let next = field::mul(field, x, value, powers, logs);
-    if (m + 1) % r == 0 {
-        return field::mul(field, x, next, powers, logs);
+    let a = questions::ask(refusal, message.len() == shape.k as usize, 5);
+    let b = questions::ask(a, length == shape.n as usize, 5);
+    if b != 0 {
+        return b;
     }
-    next
-}
-
-// Writes slot's row of the generator matrix to the first k bytes of row.
-pub fn fill_row(code: Code, slot: u32, row: &mut [u8], powers: &[u8; 255], logs: &[u8; 256])
-    requires { ⌜ Powers 1 (now powers) × Logs (now logs) × (code-refusal code ≡ 0) × (slot < code .n) × (code .k ≤ length (now row)) ⌝ }
-    ensures { λ _. ⌜ Row code slot (now (row .entry)) (now (row .exit)) ⌝ }
-{
-    let k = code.k;
-    let x = code::point_of(code, slot);
-    let mut value: u8 = 1;
-    let mut m: u32 = 0;
-    while m < k {
-        row[m as usize] = value;
-        value = next_basis(code, x, value, m, powers, logs);
-        m += 1;
-    }
-}
-
-// The refusal of encode, or 0; length is that of the codeword's buffer.
-fn encode_refusal(code: Code, message: &[u8], length: usize) -> u32
-    ensures { λ x. ⌜ x ≡ encode-refusal code (now (message .entry)) length ⌝ }
-{
-    let refusal = code::code_refusal(code);
-    if refusal != 0 {
-        return refusal;
-    }
-    let n = code.n as usize;
-    let k = code.k as usize;
-    if message.len() != k {
-        return 5;
-    }
-    if length != n {
-        return 5;
-    }
-    if !code::all_below(message, field::order(code.field)) {
-        return 6;
-    }
-    0
+    questions::ask(
+        b,
+        questions::all_below(message, field::order(shape.field)),
+        6,
+    )
 }
 
 // The place in a block of r before place i; before the first is the last.
@@ -76,20 +40,20 @@ fn place_before(i: usize, r: usize) -> usize
     i - 1
 }
 
-// The coefficients of the local polynomial where the power r + 1 of x is y, message symbols from the last to the first.
+// The coefficients of the local polynomial where the power size of x is y, message symbols from the last to the first.
 fn local_polynomial(
-    code: Code,
+    shape: Shape,
     message: &[u8],
     y: u8,
     powers: &[u8; 255],
     logs: &[u8; 256],
 ) -> [u8; 16]
-    requires { ⌜ Powers 1 (now powers) × Logs (now logs) × (code-refusal code ≡ 0) × (length (now message) ≡ code .k) ⌝ }
-    ensures { λ z. ⌜ (length z ≡ 16) × (take (code .r) z ≡ local code y (now (message .entry))) ⌝ }
+    requires { ⌜ Powers 1 (now powers) × Logs (now logs) × Placed shape × (length (now message) ≡ shape .k) ⌝ }
+    ensures { λ z. ⌜ (length z ≡ 16) × (take (shape .r) z ≡ local-coefs shape y (now (message .entry))) ⌝ }
 {
-    let field = code.field;
-    let r = code.r as usize;
-    let mut m = code.k as usize;
+    let field = shape.field;
+    let r = shape.r as usize;
+    let mut m = shape.k as usize;
     let mut i = m % r;
     let mut local = [0u8; 16];
     while m > 0 {
@@ -101,16 +65,15 @@ fn local_polynomial(
 }
 
 // The points of a group's members.
-fn points_of(code: Code, group: u32) -> [u8; 17]
-    requires { ⌜ (code-refusal code ≡ 0) × (group < groups code) ⌝ }
-    ensures { λ z. ⌜ Points code group z ⌝ }
+fn points_of(shape: Shape, group: u32) -> [u8; 17]
+    requires { ⌜ Placed shape × (group < groups shape) ⌝ }
+    ensures { λ z. ⌜ Group-points shape group z ⌝ }
 {
-    let size = code.r + 1;
-    let first = group * size;
+    let size = layout::size_of(shape);
     let mut points = [0u8; 17];
     let mut i: u32 = 0;
     while i < size {
-        points[i as usize] = code::point_of(code, first + i);
+        points[i as usize] = layout::point_at(shape, group, i);
         i += 1;
     }
     points
@@ -127,7 +90,7 @@ fn horner_step(
     logs: &[u8; 256],
 )
     requires { ⌜ Powers 1 (now powers) × Logs (now logs) × (size ≤ length (now points)) × (size ≤ length (now values)) ⌝ }
-    ensures { λ _. ⌜ Stepped field a (now (points .entry)) size (now (values .entry)) (now (values .exit)) ⌝ }
+    ensures { λ _. ⌜ Horner-step field a (now (points .entry)) size (now (values .entry)) (now (values .exit)) ⌝ }
 {
     let mut i: usize = 0;
     while i < size {
@@ -147,7 +110,7 @@ fn values_at(
     logs: &[u8; 256],
 ) -> [u8; 17]
     requires { ⌜ Powers 1 (now powers) × Logs (now logs) × (r ≤ length (now coefficients)) × (size ≤ length (now points)) × (size ≤ 17) ⌝ }
-    ensures { λ z. ⌜ Values field (take r (now (coefficients .entry))) (now (points .entry)) size z ⌝ }
+    ensures { λ z. ⌜ Values-at field (take r (now (coefficients .entry))) (now (points .entry)) size z ⌝ }
 {
     let mut values = [0u8; 17];
     let mut i = r;
@@ -166,62 +129,91 @@ fn values_at(
     values
 }
 
-// Writes the symbols of a group: its local polynomial at the points of its members.
+// The symbols of a group: its local polynomial at the points of its members.
+fn group_symbols(
+    shape: Shape,
+    message: &[u8],
+    group: u32,
+    powers: &[u8; 255],
+    logs: &[u8; 256],
+) -> [u8; 17]
+    requires { ⌜ Powers 1 (now powers) × Logs (now logs) × Plain shape × (is-message shape (now message) ≡ true) × (group < groups shape) ⌝ }
+    ensures { λ z. ⌜ Group-symbols shape (now (message .entry)) group z ⌝ }
+{
+    let field = shape.field;
+    let r = shape.r as usize;
+    let size = layout::size_of(shape);
+    let points = points_of(shape, group);
+    let y = field::power_of(field, points[0], size, powers, logs);
+    let local = local_polynomial(shape, message, y, powers, logs);
+    values_at(field, &local, r, &points, size as usize, powers, logs)
+}
+
+// Writes the symbols of a group to its slots.
 fn write_group(
-    code: Code,
+    shape: Shape,
     message: &[u8],
     group: u32,
     codeword: &mut [u8],
     powers: &[u8; 255],
     logs: &[u8; 256],
 )
-    requires { ⌜ Powers 1 (now powers) × Logs (now logs) × (code-refusal code ≡ 0) × (is-message code (now message) ≡ true) × (group < groups code) × (length (now codeword) ≡ code .n) ⌝ }
-    ensures { λ _. ⌜ Group-written code (now (message .entry)) group (now (codeword .entry)) (now (codeword .exit)) ⌝ }
+    requires { ⌜ Powers 1 (now powers) × Logs (now logs) × Plain shape × (is-message shape (now message) ≡ true) × (group < groups shape) × (length (now codeword) ≡ shape .n) ⌝ }
+    ensures { λ _. ⌜ Group-written shape (now (message .entry)) group (now (codeword .entry)) (now (codeword .exit)) ⌝ }
 {
-    let field = code.field;
-    let r = code.r as usize;
-    let size = r + 1;
-    let first = group as usize * size;
-    let points = points_of(code, group);
-    let y = field::power_of(field, points[0], code.r + 1, powers, logs);
-    let local = local_polynomial(code, message, y, powers, logs);
-    let values = values_at(field, &local, r, &points, size, powers, logs);
+    let size = layout::size_of(shape) as usize;
+    let first = layout::first_of(shape, group) as usize;
+    let step = layout::step_of(shape) as usize;
+    let symbols = group_symbols(shape, message, group, powers, logs);
     let mut i: usize = 0;
     while i < size {
-        codeword[first + i] = values[i];
+        codeword[first + i * step] = symbols[i];
         i += 1;
     }
 }
 
 // Writes the codeword of a message, group by group.
 fn write_codeword(
-    code: Code,
+    shape: Shape,
     message: &[u8],
     codeword: &mut [u8],
     powers: &[u8; 255],
     logs: &[u8; 256],
 )
-    requires { ⌜ Powers 1 (now powers) × Logs (now logs) × (code-refusal code ≡ 0) × (is-message code (now message) ≡ true) × (length (now codeword) ≡ code .n) ⌝ }
-    ensures { λ _. ⌜ now (codeword .exit) ≡ encoded code (now (message .entry)) ⌝ }
+    requires { ⌜ Powers 1 (now powers) × Logs (now logs) × Plain shape × (is-message shape (now message) ≡ true) × (length (now codeword) ≡ shape .n) ⌝ }
+    ensures { λ _. ⌜ now (codeword .exit) ≡ encoded shape (now (message .entry)) ⌝ }
 {
-    let groups = code.n / (code.r + 1);
+    let groups = layout::groups_of(shape);
     let mut group: u32 = 0;
     while group < groups {
-        write_group(code, message, group, codeword, powers, logs);
+        write_group(shape, message, group, codeword, powers, logs);
         group += 1;
     }
 }
 
-// Encodes k message symbols into n codeword symbols.
-pub fn encode(code: Code, message: &[u8], codeword: &mut [u8]) -> u32
-    ensures { λ x. ⌜ Encode-says code (now (message .entry)) x (now (codeword .entry)) (now (codeword .exit)) ⌝ }
+// Encodes for any plain family, after the refusal of the questions on its numbers.
+pub fn encode_with(refusal: u32, shape: Shape, message: &[u8], codeword: &mut [u8]) -> u32
+    requires { ⌜ (refusal ≡ 0 → Plain shape) ⌝ }
+    ensures { λ x. ⌜ Encode-says refusal shape (now (message .entry)) x (now (codeword .entry)) (now (codeword .exit)) ⌝ }
 {
-    let refusal = encode_refusal(code, message, codeword.len());
-    if refusal != 0 {
-        return refusal;
+    let refused = encode_refusal(refusal, shape, message, codeword.len());
+    if refused != 0 {
+        return refused;
     }
     let powers = field::power_table();
     let logs = field::log_table();
-    write_codeword(code, message, codeword, &powers, &logs);
+    write_codeword(shape, message, codeword, &powers, &logs);
     0
+}
+
+// Encodes k message symbols into n codeword symbols.
+pub fn encode(code: Code, message: &[u8], codeword: &mut [u8]) -> u32
+    ensures { λ x. ⌜ Encode-says (code-refusal code) (single code) (now (message .entry)) x (now (codeword .entry)) (now (codeword .exit)) ⌝ }
+{
+    encode_with(
+        layout::code_refusal(code),
+        layout::single(code),
+        message,
+        codeword,
+    )
 }

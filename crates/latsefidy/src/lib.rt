@@ -1,54 +1,21 @@
 // The C library: each call under its C name, with the code as four numbers.
-ghost use mathlib.Core.Path.{_≡_};
-ghost use lib.ListN.{length, take};
+ghost use lib.ListN.{take};
 ghost use Rattle.code.specs.Answer.{Answers};
-ghost use Rattle.code.specs.Code.{code-of};
+ghost use Rattle.code.specs.Family.{code-of, single, code-refusal};
 ghost use Rattle.encode.specs.Encode.{Encode-says};
 ghost use Rattle.repair.specs.Mates.{Repair-says, Rebuild-says};
-ghost use Rattle.groups.specs.View.{view-refusal};
-ghost use Rattle.groups.specs.Pass.{Pass-says};
+ghost use Rattle.view.specs.View.{view-refusal};
+ghost use Rattle.pass.specs.Pass.{Pass-says};
 ghost use Rattle.losses.specs.Losses.{Grade-says};
 ghost use Rattle.decode.specs.Decode.{Decode-says};
 ghost use Rattle.sheet.specs.Calls.{Write-says};
 ghost use Rattle.reporting.specs.Report.{Report-says};
-ghost use Rattle.latsefidy.specs.Pack.{unpacked, first-slot};
-ghost use Rattle.latsefidy.specs.Fill.{Weights-fill};
-ghost use Rattle.latsefidy.specs.Record.{four, numbers-of, Record-fills};
-ghost use Rattle.latsefidy.specs.Sheet.{Read-fills};
-use code::Answer;
+ghost use Rattle.binding.specs.Pack.{unpacked, first-slot};
+ghost use Rattle.binding.specs.Fill.{Weights-fill};
+ghost use Rattle.binding.specs.Record.{Record-fills};
+ghost use Rattle.binding.specs.Sheet.{Read-fills};
+use binding::packed;
 use code::Code;
-use decode::StripeRecord;
-
-// An answer in one number: the refusal high, the value low.
-fn packed(answer: Answer) -> u64
-    ensures { λ x. ⌜ unpacked x ≡ answer ⌝ }
-{
-    answer.refusal as u64 * 0x1_0000_0000 + answer.value as u64
-}
-
-// Copies bytes to a buffer of as many.
-fn copy_bytes(from: &[u8], to: &mut [u8])
-    requires { ⌜ length (now to) ≡ length (now from) ⌝ }
-    ensures { λ _. ⌜ now (to .exit) ≡ now (from .entry) ⌝ }
-{
-    let mut i: usize = 0;
-    while i < to.len() {
-        to[i] = from[i];
-        i += 1;
-    }
-}
-
-// Copies numbers to a buffer of as many.
-fn copy_numbers(from: &[u32], to: &mut [u32])
-    requires { ⌜ length (now to) ≡ length (now from) ⌝ }
-    ensures { λ _. ⌜ now (to .exit) ≡ now (from .entry) ⌝ }
-{
-    let mut i: usize = 0;
-    while i < to.len() {
-        to[i] = from[i];
-        i += 1;
-    }
-}
 
 // Encodes a message.
 #[no_mangle]
@@ -60,7 +27,7 @@ pub extern "C" fn latsefidy_encode(
     message: &[u8],
     codeword: &mut [u8],
 ) -> u32
-    ensures { λ x. ⌜ Encode-says (code-of field r n k) (now (message .entry)) x (now (codeword .entry)) (now (codeword .exit)) ⌝ }
+    ensures { λ x. ⌜ Encode-says (code-refusal (code-of field r n k)) (single (code-of field r n k)) (now (message .entry)) x (now (codeword .entry)) (now (codeword .exit)) ⌝ }
 {
     encode::encode(Code { field, r, n, k }, message, codeword)
 }
@@ -77,22 +44,7 @@ pub extern "C" fn latsefidy_weights(
 ) -> u32
     ensures { λ x. ⌜ Weights-fill (code-of field r n k) slot x (now (weights .entry)) (now (weights .exit)) ⌝ }
 {
-    let code = Code { field, r, n, k };
-    let refusal = code::code_refusal(code);
-    if refusal != 0 {
-        return refusal;
-    }
-    if weights.len() != 16 {
-        return 5;
-    }
-    let found = repair::weights(code, slot);
-    let refused = found.refusal;
-    if refused != 0 {
-        return refused;
-    }
-    let sixteen = found.weights;
-    copy_bytes(&sixteen, weights);
-    0
+    binding::weights_into(Code { field, r, n, k }, slot, weights)
 }
 
 // The symbol of a slot from its mates' symbols.
@@ -105,7 +57,7 @@ pub extern "C" fn latsefidy_repair(
     slot: u32,
     mates: &[u8],
 ) -> u64
-    ensures { λ x. ⌜ Repair-says (code-of field r n k) slot (now (mates .entry)) (unpacked x) ⌝ }
+    ensures { λ x. ⌜ Repair-says (code-refusal (code-of field r n k)) (single (code-of field r n k)) slot (now (mates .entry)) (unpacked x) ⌝ }
 {
     packed(repair::repair(Code { field, r, n, k }, slot, mates))
 }
@@ -121,7 +73,7 @@ pub extern "C" fn latsefidy_rebuild(
     strips: &[u8],
     out: &mut [u8],
 ) -> u32
-    ensures { λ x. ⌜ Rebuild-says (code-of field r n k) slot (now (strips .entry)) x (now (out .entry)) (now (out .exit)) ⌝ }
+    ensures { λ x. ⌜ Rebuild-says (code-refusal (code-of field r n k)) (single (code-of field r n k)) slot (now (strips .entry)) x (now (out .entry)) (now (out .exit)) ⌝ }
 {
     repair::rebuild(Code { field, r, n, k }, slot, strips, out)
 }
@@ -129,16 +81,9 @@ pub extern "C" fn latsefidy_rebuild(
 // The first slot of a slot's group in a word.
 #[no_mangle]
 pub extern "C" fn latsefidy_view(field: u32, r: u32, n: u32, k: u32, slot: u32, word: &[u8]) -> u64
-    ensures { λ x. ⌜ Answers (view-refusal (code-of field r n k) slot (now (word .entry))) (first-slot (code-of field r n k) slot) (unpacked x) ⌝ }
+    ensures { λ x. ⌜ Answers (view-refusal (code-refusal (code-of field r n k)) (single (code-of field r n k)) slot (now (word .entry))) (first-slot (code-of field r n k) slot) (unpacked x) ⌝ }
 {
-    let refusal = groups::group_view_refusal(Code { field, r, n, k }, slot, word);
-    if refusal != 0 {
-        return packed(Answer { refusal, value: 0 });
-    }
-    packed(Answer {
-        refusal: 0,
-        value: slot - slot % (r + 1),
-    })
+    packed(binding::view_first(Code { field, r, n, k }, slot, word))
 }
 
 // Repairs each group with exactly one loss, and answers how many.
@@ -151,9 +96,9 @@ pub extern "C" fn latsefidy_local_pass(
     word: &mut [u8],
     marks: &mut [u8],
 ) -> u64
-    ensures { λ x. ⌜ Pass-says (code-of field r n k) (now (word .entry)) (now (marks .entry)) (unpacked x) (now (word .exit)) (now (marks .exit)) ⌝ }
+    ensures { λ x. ⌜ Pass-says (code-refusal (code-of field r n k)) (single (code-of field r n k)) (now (word .entry)) (now (marks .entry)) (unpacked x) (now (word .exit)) (now (marks .exit)) ⌝ }
 {
-    packed(groups::local_pass(Code { field, r, n, k }, word, marks))
+    packed(pass::local_pass(Code { field, r, n, k }, word, marks))
 }
 
 // Decodes the kept symbols of a word.
@@ -168,7 +113,7 @@ pub extern "C" fn latsefidy_decode(
     message: &mut [u8],
     work: &mut [u8],
 ) -> u32
-    ensures { λ x. ⌜ Decode-says (code-of field r n k) (now (word .entry)) (now (marks .entry)) x (now (message .entry)) (now (message .exit)) (now (work .entry)) (now (work .exit)) ⌝ }
+    ensures { λ x. ⌜ Decode-says (code-refusal (code-of field r n k)) (single (code-of field r n k)) (now (word .entry)) (now (marks .entry)) x (now (message .entry)) (now (message .exit)) (now (work .entry)) (now (work .exit)) ⌝ }
 {
     decode::decode(Code { field, r, n, k }, word, marks, message, work)
 }
@@ -176,31 +121,9 @@ pub extern "C" fn latsefidy_decode(
 // Grades a stripe by its marks.
 #[no_mangle]
 pub extern "C" fn latsefidy_grade(field: u32, r: u32, n: u32, k: u32, marks: &[u8]) -> u64
-    ensures { λ x. ⌜ Grade-says (code-of field r n k) (now (marks .entry)) (unpacked x) ⌝ }
+    ensures { λ x. ⌜ Grade-says (code-refusal (code-of field r n k)) (single (code-of field r n k)) (now (marks .entry)) (unpacked x) ⌝ }
 {
     packed(losses::grade(Code { field, r, n, k }, marks))
-}
-
-// Writes the nine numbers of a record.
-fn put_record(stripe: StripeRecord, numbers: &mut [u32])
-    requires { ⌜ length (now numbers) ≡ 9 ⌝ }
-    ensures { λ _. ⌜ now (numbers .exit) ≡ numbers-of stripe ⌝ }
-{
-    let code = stripe.code;
-    let outcome = stripe.outcome;
-    let number = decode::outcome_number(outcome);
-    let nine = [
-        code.field,
-        code.r,
-        code.n,
-        code.k,
-        stripe.lost,
-        stripe.guarantee,
-        stripe.grade,
-        stripe.first,
-        number,
-    ];
-    copy_numbers(&nine, numbers);
 }
 
 // Decodes a stripe and writes its record.
@@ -218,30 +141,14 @@ pub extern "C" fn latsefidy_record(
 ) -> u32
     ensures { λ x. ⌜ Record-fills (code-of field r n k) (now (word .entry)) (now (marks .entry)) x (now (message .entry)) (now (message .exit)) (now (work .entry)) (now (work .exit)) (now (numbers .entry)) (now (numbers .exit)) ⌝ }
 {
-    let code = Code { field, r, n, k };
-    let refusal = code::code_refusal(code);
-    if refusal != 0 {
-        return refusal;
-    }
-    if numbers.len() != 9 {
-        return 5;
-    }
-    let drawn = decode::record(code, word, marks, message, work);
-    let refused = drawn.refusal;
-    if refused != 0 {
-        return refused;
-    }
-    put_record(drawn.record, numbers);
-    0
-}
-
-// Writes the four numbers of a code.
-fn put_code(code: Code, numbers: &mut [u32])
-    requires { ⌜ length (now numbers) ≡ 4 ⌝ }
-    ensures { λ _. ⌜ now (numbers .exit) ≡ four code ⌝ }
-{
-    let four = [code.field, code.r, code.n, code.k];
-    copy_numbers(&four, numbers);
+    binding::record_into(
+        Code { field, r, n, k },
+        word,
+        marks,
+        message,
+        work,
+        numbers,
+    )
 }
 
 // Reads a stripe sheet.
@@ -254,16 +161,7 @@ pub extern "C" fn latsefidy_read_sheet(
 ) -> u32
     ensures { λ x. ⌜ Read-fills (now (sheet .entry)) x (now (word .entry)) (now (word .exit)) (now (marks .entry)) (now (marks .exit)) (now (code .entry)) (now (code .exit)) ⌝ }
 {
-    if code.len() != 4 {
-        return 5;
-    }
-    let read = sheet::read_sheet(sheet, word, marks);
-    let refused = read.refusal;
-    if refused != 0 {
-        return refused;
-    }
-    put_code(read.code, code);
-    0
+    binding::read_into(sheet, word, marks, code)
 }
 
 // Writes a stripe sheet.
@@ -287,8 +185,5 @@ pub extern "C" fn latsefidy_write_sheet(
 pub extern "C" fn latsefidy_report(input: &[u8], text: &mut [u8]) -> u64
     ensures { λ x. ⌜ Report-says (take 1032 (now (input .entry))) (now (text .entry)) (now (text .exit)) (unpacked x) ⌝ }
 {
-    if input.len() <= 1032 {
-        return packed(reporting::report(input, text));
-    }
-    packed(reporting::report(&input[..1032], text))
+    packed(binding::report_front(input, text))
 }

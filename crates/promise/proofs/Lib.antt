@@ -1,2 +1,4 @@
-pub mod RoundTrip
-pub mod Mates
+pub mod Encoding
+pub mod Losing
+pub mod Sending
+pub mod Promises

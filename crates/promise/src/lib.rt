@@ -4,10 +4,9 @@ ghost use mathlib.Core.Bool.{false, cond};
 ghost use Prim.Native.Nat.{_<_};
 ghost use lib.ListN.{length};
 ghost use Rattle.algebra.specs.Sequence.{at};
-ghost use Rattle.code.specs.Code.{code-refusal};
-ghost use Rattle.code.specs.Erasure.{lost};
-ghost use Rattle.code.specs.Repair.{mates, symbols-of};
-ghost use Rattle.promise.specs.RoundTrip.{after-loss, Left, Comes-back, Restored};
+ghost use Rattle.code.specs.Decoding.{lost};
+ghost use Rattle.promise.specs.RoundTrip.{after-loss, Comes-back, Restored};
+ghost use Rattle.promise.specs.Step.{Left};
 use code::Answer;
 use code::Code;
 
@@ -35,7 +34,7 @@ fn lose(codeword: &[u8], marks: &[u8], other: &[u8], word: &mut [u8])
 }
 
 // Encodes a message into codeword, and writes to word what is left of it with other bytes in its lost slots.
-fn encode_and_lose(
+fn send(
     code: Code,
     message: &[u8],
     marks: &[u8],
@@ -46,17 +45,11 @@ fn encode_and_lose(
     ensures { λ x. ⌜ Left code (now (message .entry)) (now (marks .entry)) (now (other .entry)) x (now (codeword .entry)) (now (codeword .exit)) (now (word .entry)) (now (word .exit)) ⌝ }
 {
     let refusal = encode::encode(code, message, codeword);
-    if refusal != 0 {
-        return refusal;
-    }
-    if marks.len() != codeword.len() {
-        return 5;
-    }
-    if other.len() != codeword.len() {
-        return 5;
-    }
-    if word.len() != codeword.len() {
-        return 5;
+    let marked = questions::ask(refusal, marks.len() == code.n as usize, 5);
+    let others = questions::ask(marked, other.len() == code.n as usize, 5);
+    let asked = questions::ask(others, word.len() == code.n as usize, 5);
+    if asked != 0 {
+        return asked;
     }
     lose(codeword, marks, other, word);
     0
@@ -73,27 +66,13 @@ pub fn encode_lose_decode(
     back: &mut [u8],
     work: &mut [u8],
 ) -> u32
-    ensures { λ x. ⌜ Comes-back code (now (message .entry)) (now (marks .entry)) (now (other .entry)) (length (now (codeword .entry))) (length (now (word .entry))) (length (now (back .entry))) (length (now (work .entry))) x (now (back .exit)) ⌝ }
+    ensures { λ x. ⌜ Comes-back code (now (message .entry)) (now (marks .entry)) (now (other .entry)) x (now (codeword .entry)) (now (codeword .exit)) (now (word .entry)) (now (word .exit)) (now (back .entry)) (now (back .exit)) (now (work .entry)) (now (work .exit)) ⌝ }
 {
-    let refusal = encode_and_lose(code, message, marks, other, codeword, word);
+    let refusal = send(code, message, marks, other, codeword, word);
     if refusal != 0 {
         return refusal;
     }
     decode::decode(code, word, marks, back, work)
-}
-
-// Writes to symbols what the word holds at the mates of a slot.
-fn mates_of(code: Code, slot: u32, word: &[u8], symbols: &mut [u8])
-    requires { ⌜ (code-refusal code ≡ 0) × (slot < code .n) × (length (now word) ≡ code .n) × (length (now symbols) ≡ code .r) ⌝ }
-    ensures { λ _. ⌜ now (symbols .exit) ≡ symbols-of (now (word .entry)) (mates code slot) ⌝ }
-{
-    let r = code.r;
-    let mut i: u32 = 0;
-    while i < r {
-        let mate = repair::mate_of(code, slot, i);
-        symbols[i as usize] = word[mate as usize];
-        i += 1;
-    }
 }
 
 // Encodes a message, lets its lost slots hold other bytes, and repairs a slot from what its mates hold.
@@ -104,27 +83,18 @@ pub fn encode_lose_repair(
     other: &[u8],
     codeword: &mut [u8],
     word: &mut [u8],
-    symbols: &mut [u8],
     slot: u32,
 ) -> Answer
-    ensures { λ x. ⌜ Restored code (now (message .entry)) (now (marks .entry)) (now (other .entry)) (length (now (codeword .entry))) (length (now (word .entry))) (length (now (symbols .entry))) slot x (now (codeword .exit)) ⌝ }
+    ensures { λ x. ⌜ Restored code (now (message .entry)) (now (marks .entry)) (now (other .entry)) slot x (now (codeword .entry)) (now (codeword .exit)) (now (word .entry)) (now (word .exit)) ⌝ }
 {
-    let refusal = encode_and_lose(code, message, marks, other, codeword, word);
+    let sent = send(code, message, marks, other, codeword, word);
+    let refusal = questions::ask(sent, slot < code.n, 7);
     if refusal != 0 {
         return Answer { refusal, value: 0 };
     }
-    if slot >= code.n {
-        return Answer {
-            refusal: 7,
-            value: 0,
-        };
-    }
-    if symbols.len() != code.r as usize {
-        return Answer {
-            refusal: 5,
-            value: 0,
-        };
-    }
-    mates_of(code, slot, word, symbols);
-    repair::repair(code, slot, symbols)
+    let shape = layout::single(code);
+    let part = view::group_view(code, slot, word);
+    let mates = pass::mates_of(shape, part, layout::member_of(shape, slot));
+    let r = code.r as usize;
+    repair::repair(code, slot, &mates[..r])
 }

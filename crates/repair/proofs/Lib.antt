@@ -1,4 +1,3 @@
-pub mod Slots
 pub mod Sixteen
 pub mod Weighing
 pub mod Refusals

@@ -1,16 +1,18 @@
-// Repair weights, repair and strip rebuild.
+// Repair weights, repair and strip rebuild, of any shape whose groups stand one loss.
 ghost use mathlib.Core.Path.{_≡_};
 ghost use Prim.Native.Nat.{_*_, _≤_, _<_};
 ghost use lib.ListN.{length, take};
-ghost use Rattle.algebra.specs.Sequence.{at, tabulate};
+ghost use Rattle.algebra.specs.Sequence.{tabulate};
 ghost use Rattle.field.specs.Polynomial.{dotted};
 ghost use Rattle.field.specs.Table.{Powers, Logs};
-ghost use Rattle.code.specs.Code.{code-refusal};
-ghost use Rattle.code.specs.Repair.{mates, weights, column};
-ghost use Rattle.repair.specs.Weights.{sixteen, weights-refusal, Weights-say};
+ghost use Rattle.code.specs.Family.{single, code-refusal};
+ghost use Rattle.code.specs.Laws.{Mending};
+ghost use Rattle.code.specs.Repair.{weights, column};
+ghost use Rattle.repair.specs.Weights.{sixteen, Weights-say};
 ghost use Rattle.repair.specs.Mates.{mates-refusal, Repair-says, Rebuild-says};
 use code::Answer;
 use code::Code;
+use code::Shape;
 
 // A refusal number, and the r repair weights of a slot with zeros after them.
 pub struct RepairWeights {
@@ -18,33 +20,22 @@ pub struct RepairWeights {
     pub weights: [u8; 16],
 }
 
-// The slot of mate i.
-pub fn mate_of(code: Code, slot: u32, i: u32) -> u32
-    requires { ⌜ (code-refusal code ≡ 0) × (slot < code .n) × (i < code .r) ⌝ }
-    ensures { λ x. ⌜ (x ≡ at (mates code slot) i) × (x < code .n) ⌝ }
-{
-    let member = slot % (code.r + 1);
-    let first = slot - member;
-    if i < member {
-        return first + i;
-    }
-    first + (i + 1)
-}
-
 // The repair weights of a slot, with zeros after them: minus each mate's point by the slot's.
-pub fn weights_of(code: Code, slot: u32, powers: &[u8; 255], logs: &[u8; 256]) -> [u8; 16]
-    requires { ⌜ Powers 1 (now powers) × Logs (now logs) × (code-refusal code ≡ 0) × (slot < code .n) ⌝ }
-    ensures { λ x. ⌜ x ≡ sixteen (weights code slot) ⌝ }
+pub fn weights_of(shape: Shape, slot: u32, powers: &[u8; 255], logs: &[u8; 256]) -> [u8; 16]
+    requires { ⌜ Powers 1 (now powers) × Logs (now logs) × Mending shape × (slot < shape .n) ⌝ }
+    ensures { λ x. ⌜ x ≡ sixteen (weights shape slot) ⌝ }
 {
-    let field = code.field;
-    let r = code.r;
-    let x = code::point_of(code, slot);
+    let field = shape.field;
+    let r = shape.r;
+    let group = layout::group_of(shape, slot);
+    let member = layout::member_of(shape, slot);
+    let x = layout::point_at(shape, group, member);
     let inverse = field::inverse_of(field, x, powers, logs);
     let mut weights = [0u8; 16];
     let mut i: u32 = 0;
     while i < r {
-        let mate = mate_of(code, slot, i);
-        let y = code::point_of(code, mate);
+        let mate = layout::mate_member(member, i);
+        let y = layout::point_at(shape, group, mate);
         let t = field::mul(field, y, inverse, powers, logs);
         let w = field::sub(field, 0, t);
         weights[i as usize] = w;
@@ -53,82 +44,95 @@ pub fn weights_of(code: Code, slot: u32, powers: &[u8; 255], logs: &[u8; 256]) -
     weights
 }
 
-// The refusal of weights, or 0.
-fn weights_refusal(code: Code, slot: u32) -> u32
-    ensures { λ x. ⌜ x ≡ weights-refusal code slot ⌝ }
+// The weights call over any shape.
+pub fn weights_with(refusal: u32, shape: Shape, slot: u32) -> RepairWeights
+    requires { ⌜ (refusal ≡ 0 → Mending shape) ⌝ }
+    ensures { λ x. ⌜ Weights-say refusal shape slot x ⌝ }
 {
-    let refusal = code::code_refusal(code);
-    if refusal != 0 {
-        return refusal;
-    }
-    if slot >= code.n {
-        return 7;
-    }
-    0
-}
-
-// The repair weights of a slot, in slot order of its mates.
-pub fn weights(code: Code, slot: u32) -> RepairWeights
-    ensures { λ x. ⌜ Weights-say code slot x ⌝ }
-{
-    let refusal = weights_refusal(code, slot);
-    if refusal != 0 {
+    let refused = questions::ask(refusal, slot < shape.n, 7);
+    if refused != 0 {
         return RepairWeights {
-            refusal,
+            refusal: refused,
             weights: [0u8; 16],
         };
     }
     let powers = field::power_table();
     let logs = field::log_table();
-    let weights = weights_of(code, slot, &powers, &logs);
+    let weights = weights_of(shape, slot, &powers, &logs);
     RepairWeights {
         refusal: 0,
         weights,
     }
 }
 
-// The refusal of repair and strip rebuild, or 0; l is the length of each mate's strip.
-fn mates_refusal(code: Code, slot: u32, strips: &[u8], l: usize) -> u32
-    ensures { λ x. ⌜ x ≡ mates-refusal code slot l (now (strips .entry)) ⌝ }
+// The repair weights of a slot, in slot order of its mates.
+pub fn weights(code: Code, slot: u32) -> RepairWeights
+    ensures { λ x. ⌜ Weights-say (code-refusal code) (single code) slot x ⌝ }
 {
-    let refusal = code::code_refusal(code);
-    if refusal != 0 {
-        return refusal;
-    }
-    if l < 1 {
-        return 5;
-    }
-    if l > 4096 {
-        return 5;
-    }
-    if strips.len() != code.r as usize * l {
-        return 5;
-    }
-    if slot >= code.n {
-        return 7;
-    }
-    if !code::all_below(strips, field::order(code.field)) {
-        return 6;
-    }
-    0
+    weights_with(layout::code_refusal(code), layout::single(code), slot)
 }
 
-// The symbol of a slot from its mates' symbols in slot order.
-pub fn repair(code: Code, slot: u32, mates: &[u8]) -> Answer
-    ensures { λ x. ⌜ Repair-says code slot (now (mates .entry)) x ⌝ }
+// The refusal of repair and strip rebuild, or 0; l is the length of each mate's strip.
+fn mates_refusal(refusal: u32, shape: Shape, slot: u32, strips: &[u8], l: usize) -> u32
+    requires { ⌜ (refusal ≡ 0 → Mending shape) ⌝ }
+    ensures { λ x. ⌜ x ≡ mates-refusal refusal shape slot l (now (strips .entry)) ⌝ }
 {
-    let refusal = mates_refusal(code, slot, mates, 1);
-    if refusal != 0 {
-        return Answer { refusal, value: 0 };
+    let a = questions::ask(refusal, l >= 1, 5);
+    let b = questions::ask(a, l <= 4096, 5);
+    if b != 0 {
+        return b;
+    }
+    let c = questions::ask(b, strips.len() == shape.r as usize * l, 5);
+    let d = questions::ask(c, slot < shape.n, 7);
+    if d != 0 {
+        return d;
+    }
+    questions::ask(
+        d,
+        questions::all_below(strips, field::order(shape.field)),
+        6,
+    )
+}
+
+// The repair call over any shape.
+pub fn repair_with(refusal: u32, shape: Shape, slot: u32, mates: &[u8]) -> Answer
+    requires { ⌜ (refusal ≡ 0 → Mending shape) ⌝ }
+    ensures { λ x. ⌜ Repair-says refusal shape slot (now (mates .entry)) x ⌝ }
+{
+    let refused = mates_refusal(refusal, shape, slot, mates, 1);
+    if refused != 0 {
+        return Answer {
+            refusal: refused,
+            value: 0,
+        };
     }
     let powers = field::power_table();
     let logs = field::log_table();
-    let weights = weights_of(code, slot, &powers, &logs);
-    let symbol = field::dot(code.field, &weights, mates, code.r as usize, &powers, &logs);
+    let weights = weights_of(shape, slot, &powers, &logs);
+    let symbol = field::dot(
+        shape.field,
+        &weights,
+        mates,
+        shape.r as usize,
+        &powers,
+        &logs,
+    );
     Answer {
         refusal: 0,
         value: symbol as u32,
     }
+}
+
+// The symbol of a slot from its mates' symbols in slot order.
+pub fn repair(code: Code, slot: u32, mates: &[u8]) -> Answer
+    ensures { λ x. ⌜ Repair-says (code-refusal code) (single code) slot (now (mates .entry)) x ⌝ }
+{
+    repair_with(
+        layout::code_refusal(code),
+        layout::single(code),
+        slot,
+        mates,
+    )
 }
 
 // Column i of r strips of l symbols laid end to end, with zeros after it.
@@ -187,25 +191,39 @@ fn rebuild_columns(
     kernel::combine(weights, r, strips, output);
 }
 
-// Rebuilds a strip from its mates' strips laid end to end.
-pub fn rebuild(code: Code, slot: u32, strips: &[u8], output: &mut [u8]) -> u32
-    ensures { λ x. ⌜ Rebuild-says code slot (now (strips .entry)) x (now (output .entry)) (now (output .exit)) ⌝ }
+// The strip rebuild call over any shape.
+pub fn rebuild_with(refusal: u32, shape: Shape, slot: u32, strips: &[u8], output: &mut [u8]) -> u32
+    requires { ⌜ (refusal ≡ 0 → Mending shape) ⌝ }
+    ensures { λ x. ⌜ Rebuild-says refusal shape slot (now (strips .entry)) x (now (output .entry)) (now (output .exit)) ⌝ }
 {
-    let refusal = mates_refusal(code, slot, strips, output.len());
-    if refusal != 0 {
-        return refusal;
+    let refused = mates_refusal(refusal, shape, slot, strips, output.len());
+    if refused != 0 {
+        return refused;
     }
     let powers = field::power_table();
     let logs = field::log_table();
-    let weights = weights_of(code, slot, &powers, &logs);
+    let weights = weights_of(shape, slot, &powers, &logs);
     rebuild_columns(
-        code.field,
+        shape.field,
         &weights,
-        code.r as usize,
+        shape.r as usize,
         strips,
         output,
         &powers,
         &logs,
     );
     0
+}
+
+// Rebuilds a strip from its mates' strips laid end to end.
+pub fn rebuild(code: Code, slot: u32, strips: &[u8], output: &mut [u8]) -> u32
+    ensures { λ x. ⌜ Rebuild-says (code-refusal code) (single code) slot (now (strips .entry)) x (now (output .entry)) (now (output .exit)) ⌝ }
+{
+    rebuild_with(
+        layout::code_refusal(code),
+        layout::single(code),
+        slot,
+        strips,
+        output,
+    )
 }

@@ -5,32 +5,35 @@ use mathlib.Core.Path.{_≡_}
 use mathlib.Core.Bool.{Bool, true, false, cond}
 use mathlib.Core.List.{List}
 use Prim.Native.Nat.{ℕ, zero, suc, _+_, _≤_, _<_}
-use native.Mathlib.Nat.{div-le-self}
 use native.Mathlib.Omega.{arith}
 use lib.Dec.{eqb, leb}
 use Rattle.algebra.specs.Sequence.{every}
 use Rattle.algebra.proofs.Sequence.{count-most}
 use Rattle.code.specs.Question.{ask, or-ask}
-use Rattle.code.specs.Code.{size, groups, code-refusal}
-use Rattle.code.specs.Erasure.{lost, lost-number, stands, first-from, first-broken, guarantee, grade}
 use Rattle.code.specs.declared.Code.{Code}
-use Rattle.code.proofs.Accepted.{good, n-byte}
-use Rattle.code.proofs.Exponents.{k-most}
+use Rattle.code.specs.declared.Shape.{Shape}
+use Rattle.code.specs.Shape.{groups}
+use Rattle.code.specs.Codeword.{guarantee}
+use Rattle.code.specs.Decoding.{lost}
+use Rattle.code.specs.Erasure.{lost-number, stands, first-from, first-broken, grade}
+use Rattle.code.specs.Family.{single, code-refusal}
+use Rattle.code.proofs.Accepted.{plain-of}
+use Rattle.code.proofs.Bounds.{n-most, r-most, groups-most, k-most}
 use Rattle.sheet.specs.Calls.{body-refusal, sheet-refusal}
-use Rattle.reporting.specs.Report.{Small}
+use Rattle.text.specs.Text.{Small}
 
-first-most : (c : Code) (ms : List ℕ) (l j : ℕ) → j + l ≤ 255 → first-from l j c ms ≤ 255
+first-most : (s : Shape) (ms : List ℕ) (l j : ℕ) → j + l ≤ 255 → first-from l j s ms ≤ 255
 unfolding first-from
-first-most c ms zero j h = omega arith
-first-most c ms (suc l) j h = go (stands c ms j) (first-most c ms l (suc j) (omega arith))
+first-most s ms zero j h = omega arith
+first-most s ms (suc l) j h = go (stands s ms j) (first-most s ms l (suc j) (omega arith))
   where
-    go : (b : Bool) → first-from l (suc j) c ms ≤ 255 → cond b (first-from l (suc j) c ms) j ≤ 255
+    go : (b : Bool) → first-from l (suc j) s ms ≤ 255 → cond b (first-from l (suc j) s ms) j ≤ 255
     go true i = i
     go false i = omega arith
 
-grade-most : (c : Code) (ms : List ℕ) → grade c ms ≤ 3
+grade-most : (s : Shape) (ms : List ℕ) → grade s ms ≤ 3
 unfolding grade
-grade-most c ms = go (eqb (lost-number c ms) 0) (every (stands c ms) (groups c)) (leb (lost-number c ms) (guarantee c))
+grade-most s ms = go (eqb (lost-number s ms) 0) (every (stands s ms) (groups s)) (leb (lost-number s ms) (guarantee s))
   where
     go : (x y z : Bool) → cond x 0 (cond y 1 (cond z 2 3)) ≤ 3
     go true y z = omega arith
@@ -39,20 +42,22 @@ grade-most c ms = go (eqb (lost-number c ms) 0) (every (stands c ms) (groups c))
     go false false false = omega arith
 
 pub small-numbers : (c : Code) (ms : List ℕ) (v : ℕ) → code-refusal c ≡ 0 → v < 1000
-    → Small c (lost-number c ms) (guarantee c) (grade c ms) (first-broken c ms) v
-unfolding lost-number guarantee first-broken groups
+    → Small c (lost-number (single c) ms) (guarantee (single c)) (grade (single c) ms) (first-broken (single c) ms) v
+unfolding lost-number guarantee first-broken
 small-numbers c ms v e h =
-    let g = good c e in
-    let n = n-byte c g in
-    let f = first-most c ms (groups c) 0 (omega (arith, div-le-self (c .n) (size c))) in
+    let s = single c in
+    let L = plain-of c e in
+    let P = L .family .placed in
+    let n : c .n ≤ 255 = n-most s P in
+    let f = first-most s ms (groups s) 0 (omega (arith, groups-most s P)) in
     record {
-      field-small = omega (arith, g .field-most);
-      r-small = omega (arith, g .r-most);
+      field-small = omega (arith, P .field-most);
+      r-small = omega (arith, r-most s P);
       n-small = omega arith;
-      k-small = omega (arith, k-most c e);
+      k-small = omega (arith, k-most s L);
       lost-small = omega (arith, count-most (lost ms) (c .n));
       sure-small = omega arith;
-      grade-small = omega (arith, grade-most c ms);
+      grade-small = omega (arith, grade-most s ms);
       first-small = omega arith;
       outcome-small = h;
     }

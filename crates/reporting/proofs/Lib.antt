@@ -1,4 +1,3 @@
-pub mod Puts
-pub mod Reports
+pub mod Promises
 pub mod Bounds
 pub mod Reporting

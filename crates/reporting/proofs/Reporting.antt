@@ -1,4 +1,5 @@
 -- How the report follows from what was read, decoded and put. Assumes nothing.
+--   refusal-of                     decode's refusal, of a code; accepted-by: where it is 0 the code is accepted
 --   drawn                          an accepted stripe has a filled record
 --   small-record, record-lines     the numbers of a record, and its lines
 --   decodes                        an accepted sheet's stripe passes decode's questions
@@ -12,12 +13,12 @@ use native.Mathlib.Nat.{zero-add}
 use native.Mathlib.Omega.{arith}
 use lib.ListN.{length, take, drop}
 use Rattle.algebra.proofs.Sequence.{yes-true}
-use Rattle.code.specs.Code.{code-refusal}
-use Rattle.code.specs.Erasure.{guarantee, grade}
 use Rattle.code.specs.declared.Code.{Code}
+use Rattle.code.specs.Family.{single, code-refusal}
 use Rattle.code.specs.declared.Answer.{Answer}
-use Rattle.code.proofs.Accepted.{good, n-byte}
-use Rattle.code.proofs.Exponents.{k-most, work-most}
+use Rattle.code.proofs.Questions.{or-ask-passed}
+use Rattle.code.proofs.Accepted.{plain-of}
+use Rattle.code.proofs.Bounds.{n-most, k-most, work-most}
 use Rattle.decode.specs.Decode.{decode-refusal}
 use Rattle.decode.specs.Recording.{outcome-number, Numbers, Filled, Record-as, Record-says}
 use Rattle.decode.specs.declared.Outcome.{Outcome}
@@ -30,16 +31,25 @@ use Rattle.sheet.specs.Calls.{sheet-refusal, Read-says}
 use Rattle.sheet.specs.declared.Sheet.{Sheet}
 use Rattle.sheet.proofs.Accepted.{Good-sheet, good-sheet}
 use Rattle.sheet.proofs.Reading.{told-refusal, told-code, told-word, told-marks}
-use Rattle.sheet.proofs.Promises.{stripe-again}
-use Rattle.reporting.specs.Text.{refused-line, written-at, Puts}
-use Rattle.reporting.specs.Report.{stripe-lines, stripe-report, Small, refused, stripe, Stripe-says, Text-says, Report-says, written}
-use Rattle.reporting.proofs.Puts.{puts-as}
+use Rattle.sheet.proofs.WriteBack.{stripe-again}
+use Rattle.text.specs.Text.{refused-line, stripe-lines, written-at, Small, Puts}
+use Rattle.text.proofs.Puts.{puts-as}
+use Rattle.reporting.specs.Report.{stripe-report, refused, stripe, Report-says, written}
+use Rattle.reporting.specs.Step.{Stripe-says, Text-says}
 use Rattle.reporting.proofs.Bounds.{small-numbers}
 
-pub drawn : (c : Code) (ws ms : List ℕ) (x : Recorded) (a z w v : List ℕ) → decode-refusal c ws ms (length a) (length w) ≡ 0
-    → Record-says c ws ms x a z w v → Filled c ws ms x a z w v
+-- the refusal of decode, of a code
+abbrev pub refusal-of : Code → (word marks : List ℕ) → (message work : ℕ) → ℕ
+refusal-of c ws ms a b = decode-refusal (code-refusal c) (single c) ws ms a b
+
+pub accepted-by : (c : Code) (ws ms : List ℕ) (a b : ℕ) → refusal-of c ws ms a b ≡ 0 → code-refusal c ≡ 0
+unfolding decode-refusal
+accepted-by c ws ms a b e = or-ask-passed (code-refusal c) _ e .0
+
+pub drawn : (c : Code) (ws ms : List ℕ) (x : Recorded) (a z w v : List ℕ) → refusal-of c ws ms (length a) (length w) ≡ 0
+    → Record-says (code-refusal c) c (single c) ws ms x a z w v → Filled c (single c) ws ms x a z w v
 unfolding Record-says Record-as
-drawn c ws ms x a z w v e r = subst (λ n. Record-as n c ws ms x a z w v) e r
+drawn c ws ms x a z w v e r = subst (λ n. Record-as n c (single c) ws ms x a z w v) e r
 
 pub outcome-most : (o : Outcome) → outcome-number o < 1000
 unfolding outcome-number
@@ -47,7 +57,7 @@ outcome-most Decided = omega arith
 outcome-most Foreign = omega arith
 outcome-most Undecided = omega arith
 
-module _ (c : Code) (ms : List ℕ) (r : StripeRecord) (n : Numbers c ms r) where
+module _ (c : Code) (ms : List ℕ) (r : StripeRecord) (n : Numbers c (single c) ms r) where
   pub small-record : (v : ℕ) → code-refusal c ≡ 0 → v < 1000 → Small c (r .lost) (r .guarantee) (r .grade) (r .first) v
   small-record v e h =
       let s = small-numbers c ms v e h in
@@ -67,11 +77,12 @@ module _ (c : Code) (ms : List ℕ) (r : StripeRecord) (n : Numbers c ms r) wher
   unfolding stripe-report
   record-lines v w xs e = cc (n .lost, n .guarantee-is, n .grade-is, n .first)
 
-pub decodes : (s : List ℕ) (a b : ℕ) → Good-sheet s → a ≡ code-in s .k → 61455 ≤ b → decode-refusal (code-in s) (symbols-in s) (marks-in s) a b ≡ 0
+pub decodes : (s : List ℕ) (a b : ℕ) → Good-sheet s → a ≡ code-in s .k → 61455 ≤ b → refusal-of (code-in s) (symbols-in s) (marks-in s) a b ≡ 0
 decodes s a b g e h =
     let t = stripe-again s g in
-    let w = work-most (code-in s) (t .code) in
-    sym (none (code-in s) (symbols-in s) (marks-in s) a b (t .code) (t .word) (t .marks) e (omega arith) (yes-true _ (t .marked)) (yes-true _ (t .kept)))
+    let h = single (code-in s) in
+    let w = work-most h (plain-of (code-in s) (t .code)) in
+    none (code-refusal (code-in s)) h (symbols-in s) (marks-in s) a b (t .code) (t .word) (t .marks) e (omega arith) (yes-true _ (t .marked)) (yes-true _ (t .kept))
 
 module _ (s t z : List ℕ) (x : ℕ) where
   pub says-refused : (m : ℕ) → m ≡ sheet-refusal s → m ≢ 0 → Puts (refused-line m) t 0 z x → x ≤ 1032 → Text-says s t z x
@@ -102,10 +113,10 @@ module _ (s a b d e : List ℕ) (x : Sheet) (h : 255 ≤ length a) (g : 255 ≤ 
   accepted = ap code-refusal code-is ∙ good-sheet s passed .code
 
   pub few-slots : x .code .n ≤ 255
-  few-slots = n-byte (x .code) (good (x .code) accepted)
+  few-slots = n-most (single (x .code)) (plain-of (x .code) accepted .family .placed)
 
   pub few-symbols : x .code .k ≤ 240
-  few-symbols = k-most (x .code) accepted
+  few-symbols = k-most (single (x .code)) (plain-of (x .code) accepted)
 
   word-is : take (x .code .n) b ≡ symbols-in s
   word-is = ap (λ c. take (c .n) b) code-is ∙ told-word s a b d e x h g r passed
@@ -113,10 +124,10 @@ module _ (s a b d e : List ℕ) (x : Sheet) (h : 255 ≤ length a) (g : 255 ≤ 
   marks-are : take (x .code .n) e ≡ marks-in s
   marks-are = ap (λ c. take (c .n) e) code-is ∙ told-marks s a b d e x h g r passed
 
-  pub read-decodes : (l w : ℕ) → l ≡ x .code .k → 61455 ≤ w → decode-refusal (x .code) (take (x .code .n) b) (take (x .code .n) e) l w ≡ 0
+  pub read-decodes : (l w : ℕ) → l ≡ x .code .k → 61455 ≤ w → refusal-of (x .code) (take (x .code .n) b) (take (x .code .n) e) l w ≡ 0
   read-decodes l w k m =
-      subst (λ c. decode-refusal c (take (x .code .n) b) (take (x .code .n) e) l w ≡ 0) (sym code-is)
-      (ap₂ (λ ws ms. decode-refusal (code-in s) ws ms l w) word-is marks-are
+      subst (λ c. refusal-of c (take (x .code .n) b) (take (x .code .n) e) l w ≡ 0) (sym code-is)
+      (ap₂ (λ ws ms. refusal-of (code-in s) ws ms l w) word-is marks-are
       ∙ decodes s l w (good-sheet s passed) (k ∙ ap (λ c. c .k) code-is) m)
 
   pub read-says : (t z : List ℕ) (y : ℕ) → Stripe-says (x .code) (take (x .code .n) b) (take (x .code .n) e) t z y → Text-says s t z y

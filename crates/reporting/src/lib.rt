@@ -3,11 +3,11 @@ ghost use mathlib.Core.Path.{_≡_};
 ghost use Prim.Native.Nat.{_≤_};
 ghost use lib.ListN.{length};
 ghost use Rattle.decode.specs.Decode.{decode-refusal};
-ghost use Rattle.reporting.specs.Report.{Stripe-says, Text-says, Report-says};
+ghost use Rattle.code.specs.Family.{single, code-refusal};
+ghost use Rattle.reporting.specs.Report.{Report-says};
+ghost use Rattle.reporting.specs.Step.{Stripe-says, Text-says};
 use code::Answer;
 use code::Code;
-
-mod text;
 
 // Puts the report of an accepted stripe: answers the place behind it.
 fn put_stripe(
@@ -18,7 +18,7 @@ fn put_stripe(
     work: &mut [u8],
     text: &mut [u8],
 ) -> usize
-    requires { ⌜ (decode-refusal code (now word) (now marks) (length (now message)) (length (now work)) ≡ 0) × (1032 ≤ length (now text)) ⌝ }
+    requires { ⌜ (decode-refusal (code-refusal code) (single code) (now word) (now marks) (length (now message)) (length (now work)) ≡ 0) × (1032 ≤ length (now text)) ⌝ }
     ensures { λ x. ⌜ Stripe-says code (now (word .entry)) (now (marks .entry)) (now (text .entry)) (now (text .exit)) x ⌝ }
 {
     let drawn = decode::record(code, word, marks, message, work);

@@ -1,7 +1,8 @@
-pub mod Words
-pub mod Slots
-pub mod Bytes
-pub mod Rows
+pub mod Refusals
 pub mod Accepted
+pub mod Order
+pub mod Writing
 pub mod Reading
+pub mod ReadBack
+pub mod WriteBack
 pub mod Promises

@@ -1,28 +1,31 @@
 -- What the sheet's reader and writer answer and leave behind. Assumes nothing: these are definitions.
+--   body-refusal, sheet-refusal s    == the questions on a sheet's words; on all its bytes
 --   read-refusal s a b               == the reader's questions, for buffers of a and b bytes
 --   write-refusal c ws ms l          == the writer's, for a sheet of l bytes
+--   no-code                          == the code of a refused sheet: four zeros
 --   Read-says, Write-says            == the answer, and every byte of every buffer
 use mathlib.Core.Path.{_≡_}
 use mathlib.Core.Bool.{cond, _&&_}
 use mathlib.Core.List.{List, _++_}
 use Prim.Native.Nat.{ℕ, _+_, _*_, _/_, _%_}
 use lib.Dec.{leb, eqb}
-use lib.ListN.{length, take, drop}
-use Rattle.algebra.specs.Sequence.{tabulate, every, all-below}
+use lib.ListN.{length, drop}
+use Rattle.algebra.specs.Sequence.{every, all-below}
 use Rattle.code.specs.Question.{ask, or-ask}
-use Rattle.code.specs.Code.{code-refusal}
+use Rattle.code.specs.Family.{single, code-refusal}
 use Rattle.code.specs.Answer.{Fills}
 use Rattle.code.specs.Erasure.{kept-below}
 use Rattle.code.specs.declared.Code.{Code}
 use Rattle.sheet.specs.declared.Sheet.{Sheet}
-use Rattle.sheet.specs.Sheet.{word-bytes, bytes, slot-word, word-at, middle-word, kind, end-word, sheet-of, slot-fits, code-in, symbols-in, marks-in}
+use Rattle.words.specs.Word.{word-at, kind, end-word, slot-fits}
+use Rattle.sheet.specs.Sheet.{middle-word, sheet-of, code-in, symbols-in, marks-in}
 
 -- 13, 14, 6, 15: asked of a sheet whose first word is this code's
 unfoldable pub body-refusal : Code → (sheet : List ℕ) → ℕ
 body-refusal c s =
     ask (eqb (length s / 4) (c .n + 2)) 13
     (ask (every (λ p. slot-fits p (middle-word s p)) (c .n)) 14
-    (ask (kept-below c (symbols-in s) (marks-in s)) 6 (ask (eqb (word-at s (c .n + 1)) (end-word (c .n))) 15 0)))
+    (ask (kept-below (single c) (symbols-in s) (marks-in s)) 6 (ask (eqb (word-at s (c .n + 1)) (end-word (c .n))) 15 0)))
 
 -- 11, 12, then 1 to 4, then the body's
 unfoldable pub sheet-refusal : (sheet : List ℕ) → ℕ
@@ -39,15 +42,7 @@ unfoldable pub write-refusal : Code → (word marks : List ℕ) → (sheet : ℕ
 write-refusal c ws ms l =
     or-ask (code-refusal c)
     (ask (eqb (length ws) (c .n) && (eqb (length ms) (c .n) && eqb l (4 * (c .n + 2)))) 5
-    (ask (all-below 2 ms) 8 (ask (kept-below c ws ms) 6 0)))
-
--- a sheet with w written as its word i
-unfoldable pub put-word : (sheet : List ℕ) → (i w : ℕ) → List ℕ
-put-word s i w = take (4 * i) s ++ word-bytes w ++ drop (4 * i + 4) s
-
--- a sheet with the words of the slots below p written after its first word
-unfoldable pub put-slots : (sheet word marks : List ℕ) → (p : ℕ) → List ℕ
-put-slots s ws ms p = take 4 s ++ bytes (tabulate (slot-word ws ms) p) ++ drop (4 * (p + 1)) s
+    (ask (all-below 2 ms) 8 (ask (kept-below (single c) ws ms) 6 0)))
 
 unfoldable pub no-code : Code
 no-code = record { field = 0; r = 0; n = 0; k = 0 }

@@ -1,15 +1,16 @@
--- What is promised of sheets. Each statement is a type; proofs/Promises.antt has its proof. Assumes nothing.
+-- What is promised of sheets. Each statement is a type; proofs/Promises.antt proves them all. Assumes nothing: these are statements.
 --   Sheet-length   a sheet has 4 × (n + 2) bytes
 --   Reads-back     reading a written sheet gives back the code, the marks and the kept symbols, with 0 at the lost slots
 --   Writes-back    writing what was read of an accepted sheet gives its bytes
 --   One-sheet      an accepted sheet is the only one with its code, its losses and its kept symbols
+--   Promises       all of them
 use mathlib.Core.Path.{_≡_}
 use mathlib.Core.Bool.{true, false, cond}
 use mathlib.Core.List.{List}
 use Prim.Native.Nat.{ℕ, _+_, _*_, _≤_, _<_}
 use lib.ListN.{length}
 use Rattle.algebra.specs.Sequence.{at, tabulate, all-below}
-use Rattle.code.specs.Erasure.{lost}
+use Rattle.code.specs.Decoding.{lost}
 use Rattle.code.specs.declared.Code.{Code}
 use Rattle.sheet.specs.Sheet.{sheet-of, code-in, symbols-in, marks-in}
 use Rattle.sheet.specs.Calls.{read-refusal, write-refusal}
@@ -43,3 +44,9 @@ unfoldable pub One-sheet : Type 0
 One-sheet =
     (s t : List ℕ) → Accepted-sheet s → Accepted-sheet t → code-in s ≡ code-in t → marks-in s ≡ marks-in t
     → ((p : ℕ) → p < code-in s .n → lost (marks-in s) p ≡ false → at (symbols-in s) p ≡ at (symbols-in t) p) → s ≡ t
+
+pub record Promises : Type 0 where
+  pub sheet-length : Sheet-length
+  pub reads-back : Reads-back
+  pub writes-back : Writes-back
+  pub one-sheet : One-sheet

@@ -1,16 +1,22 @@
-use mathlib.Core.Path.{sym, _∙_}
-use native.Mathlib.Omega.{arith}
-use borrow.Author.Tests.{not-true, not-false}
-use Rattle.decode.proofs.Refusals.{used-fits, stop, five-word, five-marks, five-message, five-work, eight, six, none}
 use borrow.Author.Needs.{needs}
+use mathlib.Core.Path.{ap, ap₂, _∙_}
+use Prim.Native.Nat.{ℕ, _+_, _*_}
+use native.Mathlib.Omega.{arith}
+use lib.Dec.{eqb, leb, eqb→eq}
+use lib.ListN.{length}
+use Rattle.algebra.specs.Sequence.{all-below}
+use Rattle.code.specs.Question.{ask, or-ask}
+use Rattle.code.specs.Erasure.{kept-below}
+use Rattle.code.proofs.Questions.{or-ask-stop}
+use Rattle.code.proofs.Bounds.{work-most}
+use Rattle.decode.specs.Decode.{used, decode-refusal}
+use Rattle.decode.proofs.Refusals.{chain, lengths}
 use Rattle.decode.proofs.decode_refusal.Statement.{statement}
 use Rattle.decode.proofs.decode_refusal.Tie as tie
 
-code-refusal-requires : tie.Need-code-refusal-requires
-code-refusal-requires c κs = search needs
-
 returns : tie.Need-returns
-returns c = let a = c .before .before .before .before .args in stop (a .code) (a .word .now) (a .marks .now) (a .message) (a .work) (c .before .code-refusal .result) (c .before .code-refusal .ensures) (c .if1 .taken)
+unfolding decode-refusal
+returns c = or-ask-stop (c .before .before .before .args .refusal) _ (c .if1 .taken)
 
 cast-n : tie.Need-cast-n
 cast-n c = search needs
@@ -18,81 +24,92 @@ cast-n c = search needs
 cast-k : tie.Need-cast-k
 cast-k c = search needs
 
-returns-2 : tie.Need-returns-2
-returns-2 c =
-    let s = c .before .before .before in
-    let a = s .before .before .before .before .args in
-    five-word (a .code) (a .word .now) (a .marks .now) (a .message) (a .work) (sym (s .before .code-refusal .ensures) ∙ s .if1 .left) (c .if2 .taken)
+add-used : tie.Need-add-used
+add-used c = search needs
 
-returns-3 : tie.Need-returns-3
-returns-3 c =
-    let s = c .before .before .before .before in
-    let a = s .before .before .before .before .args in
-    five-marks (a .code) (a .word .now) (a .marks .now) (a .message) (a .work) (sym (s .before .code-refusal .ensures) ∙ s .if1 .left) (c .if3 .taken)
+mul-used : tie.Need-mul-used
+mul-used c =
+    let a = c .before .before .before .before .before in
+    omega (arith, work-most (a .args .shape) (a .pre (c .before .before .if1 .left) .plain))
 
-returns-4 : tie.Need-returns-4
-returns-4 c =
-    let s = c .before .before .before .before .before in
-    let a = s .before .before .before .before .args in
-    five-message (a .code) (a .word .now) (a .marks .now) (a .message) (a .work) (sym (s .before .code-refusal .ensures) ∙ s .if1 .left) (c .if4 .taken)
+ask-requires : tie.Need-ask-requires
+ask-requires c κs = search needs
 
-add-if5 : tie.Need-add-if5
-add-if5 c = search needs
+ask-requires-2 : tie.Need-ask-requires-2
+ask-requires-2 c κs = search needs
 
-mul-if5 : tie.Need-mul-if5
-mul-if5 c =
-    let s = c .before .before .before .before .before in
-    let a = s .before .before .before .before .args in
-    omega (arith, used-fits (a .code) (sym (s .before .code-refusal .ensures) ∙ s .if1 .left))
+ask-requires-3 : tie.Need-ask-requires-3
+ask-requires-3 c κs = search needs
 
-returns-5 : tie.Need-returns-5
-returns-5 c =
-    let s = c .before .before .before .before .before .before in
-    let a = s .before .before .before .before .args in
-    five-work (a .code) (a .word .now) (a .marks .now) (a .message) (a .work) (sym (s .before .code-refusal .ensures) ∙ s .if1 .left) (c .if5 .taken)
+ask-requires-4 : tie.Need-ask-requires-4
+ask-requires-4 c κs = search needs
 
 all-below-requires : tie.Need-all-below-requires
 all-below-requires c κs = search needs
 
-returns-6 : tie.Need-returns-6
-returns-6 c =
-    let s = c .before .before .before .before .before .before .before .before in
-    let a = s .before .before .before .before .args in
-    eight (a .code) (a .word .now) (a .marks .now) (a .message) (a .work) (sym (s .before .code-refusal .ensures) ∙ s .if1 .left) (c .before .before .before .before .before .if2 .left) (c .before .before .before .before .if3 .left) (c .before .before .before .if4 .left) (c .before .before .if5 .left) (sym (c .before .all-below .ensures) ∙ not-true _ (c .if6 .taken))
+ask-requires-5 : tie.Need-ask-requires-5
+ask-requires-5 c κs = search needs
+
+returns-2 : tie.Need-returns-2
+unfolding decode-refusal used
+returns-2 c =
+    let a = c .before .before .before .before .before .before .before .before .before .before .before .before .args in
+    let s = a .shape in
+    let m = a .marks .now in
+    let rest : ℕ = ask (kept-below s (a .word .now) m) 6 0 in
+    or-ask-stop (c .before .ask5 .result) rest (c .if2 .taken)
+    ∙ chain (a .refusal) (c .before .before .before .before .before .before .ask .result) (c .before .before .before .before .before .ask2 .result) (c .before .before .before .before .ask3 .result) (c .before .before .before .ask4 .result) (c .before .ask5 .result)
+    (eqb (length (a .word .now)) (s .n)) (eqb (length m) (s .n)) (eqb (a .message) (s .k)) (leb (s .n * (s .k + 1)) (a .work)) (all-below 2 m)
+    (c .before .before .before .before .before .before .ask .ensures) (c .before .before .before .before .before .ask2 .ensures) (c .before .before .before .before .ask3 .ensures) (c .before .before .before .ask4 .ensures)
+    (c .before .ask5 .ensures ∙ ap (λ b. or-ask (c .before .before .before .ask4 .result) (ask b 8 0)) (c .before .before .all-below .ensures)) rest
 
 kept-below-requires : tie.Need-kept-below-requires
-kept-below-requires c κs = search needs
+kept-below-requires c κs =
+    let a = c .before .before .before .before .before .before .before .before .before .before .before .before .args in
+    let s = a .shape in
+    let m = a .marks .now in
+    let w = eqb (length (a .word .now)) (s .n) in
+    let l
+    = lengths (a .refusal) (c .before .ask5 .result) w (eqb (length m) (s .n)) (eqb (a .message) (s .k)) (leb (s .n * (s .k + 1)) (a .work)) (all-below 2 m)
+    (c .if2 .left)
+    (chain (a .refusal) (c .before .before .before .before .before .before .ask .result) (c .before .before .before .before .before .ask2 .result) (c .before .before .before .before .ask3 .result) (c .before .before .before .ask4 .result) (c .before .ask5 .result)
+    w (eqb (length m) (s .n)) (eqb (a .message) (s .k)) (leb (s .n * (s .k + 1)) (a .work)) (all-below 2 m)
+    (c .before .before .before .before .before .before .ask .ensures) (c .before .before .before .before .before .ask2 .ensures) (c .before .before .before .before .ask3 .ensures) (c .before .before .before .ask4 .ensures)
+    (c .before .ask5 .ensures ∙ ap (λ b. or-ask (c .before .before .before .ask4 .result) (ask b 8 0)) (c .before .before .all-below .ensures)) 0) in
+    (eqb→eq (length (a .word .now)) (s .n) (l .0), eqb→eq (length m) (s .n) (l .1))
 
-returns-7 : tie.Need-returns-7
-returns-7 c =
-    let s = c .before .before .before .before .before .before .before .before .before .before in
-    let a = s .before .before .before .before .args in
-    six (a .code) (a .word .now) (a .marks .now) (a .message) (a .work) (sym (s .before .code-refusal .ensures) ∙ s .if1 .left) (c .before .before .before .before .before .before .before .if2 .left) (c .before .before .before .before .before .before .if3 .left) (c .before .before .before .before .before .if4 .left) (c .before .before .before .before .if5 .left) (sym (c .before .before .before .all-below .ensures) ∙ not-false _ (c .before .before .if6 .left))
-    (sym (c .before .kept-below .ensures) ∙ not-true _ (c .if7 .taken))
+ask-requires-6 : tie.Need-ask-requires-6
+ask-requires-6 c κs = search needs
 
-returns-8 : tie.Need-returns-8
-returns-8 c =
-    let s = c .before .before .before .before .before .before .before .before .before .before in
-    let a = s .before .before .before .before .args in
-    none (a .code) (a .word .now) (a .marks .now) (a .message) (a .work) (sym (s .before .code-refusal .ensures) ∙ s .if1 .left) (c .before .before .before .before .before .before .before .if2 .left) (c .before .before .before .before .before .before .if3 .left) (c .before .before .before .before .before .if4 .left) (c .before .before .before .before .if5 .left) (sym (c .before .before .before .all-below .ensures) ∙ not-false _ (c .before .before .if6 .left))
-    (sym (c .before .kept-below .ensures) ∙ not-false _ (c .if7 .left))
+returns-3 : tie.Need-returns-3
+unfolding decode-refusal used
+returns-3 c =
+    let t = c .before .before in
+    let a = t .before .before .before .before .before .before .before .before .before .before .before .before .args in
+    let s = a .shape in
+    let m = a .marks .now in
+    c .ask6 .ensures ∙ ap (λ b. or-ask (t .before .ask5 .result) (ask b 6 0)) (c .before .kept-below .ensures)
+    ∙ chain (a .refusal) (t .before .before .before .before .before .before .ask .result) (t .before .before .before .before .before .ask2 .result) (t .before .before .before .before .ask3 .result) (t .before .before .before .ask4 .result) (t .before .ask5 .result)
+    (eqb (length (a .word .now)) (s .n)) (eqb (length m) (s .n)) (eqb (a .message) (s .k)) (leb (s .n * (s .k + 1)) (a .work)) (all-below 2 m)
+    (t .before .before .before .before .before .before .ask .ensures) (t .before .before .before .before .before .ask2 .ensures) (t .before .before .before .before .ask3 .ensures) (t .before .before .before .ask4 .ensures)
+    (t .before .ask5 .ensures ∙ ap (λ b. or-ask (t .before .before .before .ask4 .result) (ask b 8 0)) (t .before .before .all-below .ensures)) (ask (kept-below s (a .word .now) m) 6 0)
 
 pub decode-refusal-spec : {M : Type 1} → statement M
 decode-refusal-spec =
     tie.close
     (tie.spec
-    code-refusal-requires
     returns
     cast-n
     cast-k
-    returns-2
-    returns-3
-    returns-4
-    add-if5
-    mul-if5
-    returns-5
+    add-used
+    mul-used
+    ask-requires
+    ask-requires-2
+    ask-requires-3
+    ask-requires-4
     all-below-requires
-    returns-6
+    ask-requires-5
+    returns-2
     kept-below-requires
-    returns-7
-    returns-8)
+    ask-requires-6
+    returns-3)

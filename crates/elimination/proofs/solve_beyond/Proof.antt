@@ -20,7 +20,7 @@ returns : tie.Need-returns
 returns c =
     let a = c .before .before .before .before .before .before .before .before .before .before .before .before .before .args in
     let g = c .before .before .before .before .before .before .before .gather in (
-      verdict-none (a .code) (a .word .now) (a .marks .now) (g .last .1 .1 .1 .0) (a .message .now) (g .result) (g .ensures) (not-true _ (c .before .before .before .before .if1 .taken)),
+      verdict-none (a .shape) (a .word .now) (a .marks .now) (g .last .1 .1 .1 .0) (a .message .now) (g .result) (g .ensures) (not-true _ (c .before .before .before .before .if1 .taken)),
       c .before .before .clear .ensures ∙ ap (λ (l : ℕ). replicate l 0) (g .kept .1 .1 .1 .0),
     )
 
@@ -44,7 +44,7 @@ returns-2 c =
     let a = c .before .before .before .before .before .before .before .before .before .before .before .before .before .before .before .before .before .before .before .before .args in
     let g = c .before .before .before .before .before .before .before .before .before .before .before .before .before .before .gather in
     let t = c .before .before .before .before .before .before .before .finish in (
-      verdict-one (a .code) (a .word .now) (a .marks .now) (g .last .1 .1 .1 .0) (g .result) (g .ensures) (not-false _ (c .before .before .before .before .before .before .before .before .before .before .before .if1 .left)) (a .message .now)
+      verdict-one (a .shape) (a .word .now) (a .marks .now) (g .last .1 .1 .1 .0) (g .result) (g .ensures) (not-false _ (c .before .before .before .before .before .before .before .before .before .before .before .if1 .left)) (a .message .now)
           (t .last .1 .1 .1 .0) (t .result) (t .ensures) (c .if2 .taken),
       c .before .before .before .clear2 .ensures ∙ ap (λ (l : ℕ). replicate l 0) (g .kept .1 .1 .1 .0),
     )
@@ -60,7 +60,7 @@ returns-3 c =
     let a = c .before .before .before .before .before .before .before .before .before .before .before .before .before .before .before .before .before .before .before .before .args in
     let g = c .before .before .before .before .before .before .before .before .before .before .before .before .before .before .gather in
     let t = c .before .before .before .before .before .before .before .finish in (
-      verdict-more (a .code) (a .word .now) (a .marks .now) (g .last .1 .1 .1 .0) (g .result) (g .ensures) (not-false _ (c .before .before .before .before .before .before .before .before .before .before .before .if1 .left)) (a .message .now)
+      verdict-more (a .shape) (a .word .now) (a .marks .now) (g .last .1 .1 .1 .0) (g .result) (g .ensures) (not-false _ (c .before .before .before .before .before .before .before .before .before .before .before .if1 .left)) (a .message .now)
           (t .last .1 .1 .1 .0) (t .result) (t .ensures) (c .if2 .left),
       c .before .before .before .clear2 .ensures ∙ ap (λ (l : ℕ). replicate l 0) (g .kept .1 .1 .1 .0),
     )

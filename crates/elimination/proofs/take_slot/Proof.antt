@@ -7,7 +7,7 @@ shared-slice-read-if1 : tie.Need-shared-slice-read-if1
 shared-slice-read-if1 c = search needs
 
 returns : tie.Need-returns
-returns c = let s = c .before .before .before .before .before in let a = s .args in taken-lost (a .code) (a .p) (a .word .now) (a .marks .now) (a .work .now) (s .pre .5) (c .if1 .taken)
+returns c = let s = c .before .before .before .before .before in let a = s .args in taken-lost (a .shape) (a .p) (a .word .now) (a .marks .now) (a .work .now) (s .pre .3) (c .if1 .taken)
 
 cast-k : tie.Need-cast-k
 cast-k c = search needs
@@ -32,7 +32,7 @@ unfolding start
 fill-row-requires c κs =
     let s = c .before .before .before .before .before .before .before in
     let a = s .args in
-    (s .pre .6, s .pre .7, s .pre .0, s .pre .1, part-room (a .code) (a .work .now) (s .pre .5))
+    (s .pre .4, s .pre .5, s .pre .0, s .pre .1, part-room (a .shape) (a .work .now) (s .pre .3))
 
 shared-slice-read-insert : tie.Need-shared-slice-read-insert
 shared-slice-read-insert c = search needs
@@ -43,11 +43,11 @@ insert-requires c κs =
     let s = c .before .before .before .before .before .before .before .before .before .before .before .before in
     let a = s .args in
     let d = c .before .before .before .before .fill-row in (
-      filled-echelon (a .code) (a .p) (a .work .now) (d .last .1 .1 .0) (s .pre .5) (d .ensures),
-      filled-below (a .code) (a .p) (a .work .now) (d .last .1 .1 .0) (s .pre .5) (d .ensures),
-      kept-symbol (a .code) (a .word .now) (a .marks .now) (s .pre .4) (a .p) (s .pre .1) (c .before .before .before .before .before .before .before .if1 .left),
-      s .pre .6,
-      s .pre .7,
+      filled-echelon (a .shape) (a .p) (s .pre .0 .whole-groups) (a .work .now) (d .last .1 .1 .0) (s .pre .3) (d .ensures),
+      filled-below (a .shape) (a .p) (s .pre .0 .whole-groups) (a .work .now) (d .last .1 .1 .0) (s .pre .3) (d .ensures),
+      kept-symbol (a .shape) (a .word .now) (a .marks .now) (s .pre .2 .kept) (a .p) (s .pre .1) (c .before .before .before .before .before .before .before .if1 .left),
+      s .pre .4,
+      s .pre .5,
     )
 
 same-length : tie.Need-same-length
@@ -60,7 +60,7 @@ returns-2 c =
     let a = s .args in
     let d = c .before .before .before .before .before .before .before .fill-row in
     let t = c .before .before .insert in
-    taken (a .code) (a .p) (a .work .now) (d .last .1 .1 .0) (s .pre .5) (d .ensures) (a .word .now) (a .marks .now) (t .last .1 .1 .1 .0) (t .result)
+    taken (a .shape) (a .p) (s .pre .0 .whole-groups) (a .work .now) (d .last .1 .1 .0) (s .pre .3) (d .ensures) (a .word .now) (a .marks .now) (t .last .1 .1 .1 .0) (t .result)
     (c .before .before .before .before .before .before .before .before .before .before .if1 .left) (t .ensures)
 
 pub take-slot-spec : {M : Type 1} → statement M

@@ -1,54 +1,36 @@
 use borrow.Author.Needs.{needs}
-use mathlib.Core.Path.{_≡_, refl, sym, _∙_}
-use lib.ListN.{length}
-use Rattle.code.specs.Codeword.{encoded}
-use Rattle.code.proofs.Answers.{fills-no, fills-yes}
-use Rattle.code.proofs.Codewords.{is-message-of}
-use Rattle.encode.specs.Encode.{encode-refusal, Encode-says}
-use Rattle.encode.proofs.Refusal.{passed}
+use mathlib.Core.Path.{sym, _∙_, subst}
+use Rattle.code.specs.Family.{single}
+use Rattle.code.specs.Laws.{Plain}
+use Rattle.code.proofs.Accepted.{plain-of}
+use Rattle.encode.specs.Encode.{Encode-says}
 use Rattle.encode.proofs.encode.Statement.{statement}
 use Rattle.encode.proofs.encode.Tie as tie
 
-encode-refusal-requires : tie.Need-encode-refusal-requires
-encode-refusal-requires c κs = search needs
+code-refusal-requires : tie.Need-code-refusal-requires
+code-refusal-requires c κs = search needs
 
-returns : tie.Need-returns
-unfolding Encode-says
-returns c =
-    let a = c .before .before .before .before .args in
-    fills-no (encode-refusal (a .code) (a .message .now) (length (a .codeword .now))) (encoded (a .code) (a .message .now)) (c .before .encode-refusal .result)
-    (a .codeword .now) (a .codeword .now) (c .before .encode-refusal .ensures) (c .if1 .taken) refl
+single-requires : tie.Need-single-requires
+single-requires c κs = search needs
 
-power-table-requires : tie.Need-power-table-requires
-power-table-requires c κs = search needs
-
-log-table-requires : tie.Need-log-table-requires
-log-table-requires c κs = search needs
-
-write-codeword-requires : tie.Need-write-codeword-requires
-write-codeword-requires c κs =
-    let a = c .before .before .before .before .before .before .before .before .before .args in
-    let P = passed (a .code) (a .message .now) (length (a .codeword .now)) (sym (c .before .before .before .before .before .before .encode-refusal .ensures) ∙ c .before .before .before .before .before .if1 .left) in
-    (c .before .before .before .before .power-table .ensures, c .before .before .before .log-table .ensures, P .accepted, is-message-of (a .code) (a .message .now) (record { length-is = P .size; below = P .below }), P .room)
+encode-with-requires : tie.Need-encode-with-requires
+encode-with-requires c κs =
+    let a = c .before .before .before .before .before .args in
+    λ e. subst Plain (sym (c .before .single .ensures)) (plain-of (a .code) (sym (c .before .before .code-refusal .ensures) ∙ e))
 
 same-length : tie.Need-same-length
 same-length c = search needs
 
-returns-2 : tie.Need-returns-2
-unfolding Encode-says
-returns-2 c =
-    let a = c .before .before .before .before .before .before .before .before .before .before .before .before .args in
-    fills-yes (encode-refusal (a .code) (a .message .now) (length (a .codeword .now))) (encoded (a .code) (a .message .now)) 0
-    (a .codeword .now) _ (sym (c .before .before .before .before .before .before .before .before .before .encode-refusal .ensures) ∙ c .before .before .before .before .before .before .before .before .if1 .left) refl (c .before .before .write-codeword .ensures)
+returns : tie.Need-returns
+returns c =
+    let a = c .before .before .before .before .before .before .before .before .args in
+    let w = c .before .before .encode-with in
+    subst (λ n. Encode-says n (single (a .code)) (a .message .now) (w .result) (a .codeword .now) (w .last .1 .1 .1 .0))
+    (c .before .before .before .before .before .code-refusal .ensures)
+    (subst (λ s. Encode-says (c .before .before .before .before .before .code-refusal .result) s (a .message .now) (w .result) (a .codeword .now) (w .last .1 .1 .1 .0))
+    (c .before .before .before .before .single .ensures) (w .ensures))
 
 pub encode-spec : {M : Type 1} → statement M
 encode-spec =
     tie.close
-    (tie.spec
-    encode-refusal-requires
-    returns
-    power-table-requires
-    log-table-requires
-    write-codeword-requires
-    same-length
-    returns-2)
+    (tie.spec code-refusal-requires single-requires encode-with-requires same-length returns)

@@ -4,13 +4,14 @@ use Prim.Native.Nat.{suc, _+_, _-_, _%_, _≤_}
 use native.Mathlib.Nat.{mod-lt}
 use native.Mathlib.Omega.{arith}
 use lib.ListN.{length}
-use Rattle.code.proofs.Accepted.{good}
-use Rattle.encode.proofs.Coefficients.{before-place, place-room, Coefficients, coefficients-none, coefficients-more, coefficients-all}
+use Rattle.algebra.proofs.Strands.{before-place}
+use Rattle.code.proofs.Bounds.{r-most}
+use Rattle.encode.proofs.Local.{place-room, Local-from, local-none, local-more, local-all}
 use Rattle.encode.proofs.local_polynomial.Statement.{statement}
 use Rattle.encode.proofs.local_polynomial.Tie as tie
 
 abbrev Inv-loop : tie.InvT-loop
-Inv-loop message y powers logs field r m₀ i₀ local₀ m i local = (m ≤ length message) × (i ≡ m % r) × Coefficients field r y m message local
+Inv-loop message y powers logs field r m₀ i₀ local₀ m i local = (m ≤ length message) × (i ≡ m % r) × Local-from field r y m message local
 
 abbrev μ-loop : tie.MeasureT-loop
 μ-loop message y powers logs field r m₀ i₀ local₀ m i local = m
@@ -22,7 +23,7 @@ cast-m : tie.Need-cast-m Inv-loop μ-loop
 cast-m c = search needs
 
 rem-i : tie.Need-rem-i Inv-loop μ-loop
-rem-i c = let s = c .before .before .before in good (s .args .code) (s .pre .2) .r-least
+rem-i c = let s = c .before .before .before in s .pre .2 .r-least
 
 loop-holds : tie.Need-loop-holds Inv-loop μ-loop
 loop-holds c =
@@ -30,7 +31,7 @@ loop-holds c =
     let a = s .args in (
       omega (arith, s .pre .3),
       refl,
-      coefficients-none (a .code .field) (a .code .r) (a .y) (a .code .k) (a .message .now) (omega (arith, s .pre .3)) (good (a .code) (s .pre .2) .r-most),
+      local-none (a .shape .field) (a .shape .r) (a .y) (a .shape .k) (a .message .now) (omega (arith, s .pre .3)) (r-most (a .shape) (s .pre .2)),
     )
 
 sub-m : tie.Need-sub-m Inv-loop μ-loop
@@ -40,7 +41,7 @@ place-before-requires : tie.Need-place-before-requires Inv-loop μ-loop
 place-before-requires c κs =
     let s = c .before .before .before .before .before in
     let l = c .before .loop in
-    omega (arith, l .inv .1, mod-lt (l .m) (good (s .args .code) (s .pre .2) .r-least))
+    omega (arith, l .inv .1, mod-lt (l .m) (s .pre .2 .r-least))
 
 shared-slice-read-mul-add : tie.Need-shared-slice-read-mul-add Inv-loop μ-loop
 shared-slice-read-mul-add c = omega (arith, c .before .before .before .loop .inv .0)
@@ -48,7 +49,7 @@ shared-slice-read-mul-add c = omega (arith, c .before .before .before .loop .inv
 array-read-mul-add : tie.Need-array-read-mul-add Inv-loop μ-loop
 array-read-mul-add c =
     let s = c .before .before .before .before .before .before .before in
-    place-room (s .args .code) (good (s .args .code) (s .pre .2)) (c .before .before .before .loop .i) (c .before .place-before .result) (c .before .place-before .ensures)
+    place-room (s .args .shape) (s .pre .2) (c .before .before .before .loop .i) (c .before .place-before .result) (c .before .place-before .ensures)
 
 mul-add-requires : tie.Need-mul-add-requires Inv-loop μ-loop
 mul-add-requires c κs = let s = c .before .before .before .before .before .before .before in (s .pre .0, s .pre .1)
@@ -56,7 +57,7 @@ mul-add-requires c κs = let s = c .before .before .before .before .before .befo
 array-write-local : tie.Need-array-write-local Inv-loop μ-loop
 array-write-local c =
     let s = c .before .before .before .before .before .before .before .before in
-    place-room (s .args .code) (good (s .args .code) (s .pre .2)) (c .before .before .before .before .loop .i) (c .before .before .place-before .result) (c .before .before .place-before .ensures)
+    place-room (s .args .shape) (s .pre .2) (c .before .before .before .before .loop .i) (c .before .before .place-before .result) (c .before .before .place-before .ensures)
 
 loop-less : tie.Need-loop-less Inv-loop μ-loop
 loop-less c = omega arith
@@ -65,19 +66,19 @@ loop-again : tie.Need-loop-again Inv-loop μ-loop
 loop-again c =
     let s = c .before .before .before .before .before .before .before .before in
     let a = s .args in
-    let G = good (a .code) (s .pre .2) in
+    let P = s .pre .2 in
     let l = c .before .before .before .before .loop in
     let m = l .m - 1 in
     let e : l .m ≡ suc m = omega arith in
-    let r = a .code .r in
-    let f = a .code .field in
+    let r = a .shape .r in
+    let f = a .shape .field in
     let p : c .before .before .place-before .result ≡ m % r =
-    c .before .before .place-before .ensures ∙ ap (λ n. (n + (r - 1)) % r) (l .inv .1 ∙ ap (λ n. n % r) e) ∙ before-place r m (G .r-least) in (
+    c .before .before .place-before .ensures ∙ ap (λ n. (n + (r - 1)) % r) (l .inv .1 ∙ ap (λ n. n % r) e) ∙ before-place r m (P .r-least) in (
       omega arith,
       p,
-      coefficients-more f r (a .y) m (c .before .before .place-before .result) (c .mul-add .result) (a .message .now) (l .local) (G .r-least) (G .r-most)
+      local-more f r (a .y) m (c .before .before .place-before .result) (c .mul-add .result) (a .message .now) (l .local) (P .r-least) (r-most (a .shape) P)
           (omega (arith, l .inv .0)) p (c .mul-add .ensures)
-          (subst (λ n. Coefficients f r (a .y) n (a .message .now) (l .local)) e (l .inv .2)),
+          (subst (λ n. Local-from f r (a .y) n (a .message .now) (l .local)) e (l .inv .2)),
     )
 
 returns : tie.Need-returns Inv-loop μ-loop
@@ -86,8 +87,8 @@ returns c =
     let a = s .args in
     let l = c .before .loop in
     let z : l .m ≡ 0 = omega arith in
-    let C = subst (λ n. Coefficients (a .code .field) (a .code .r) (a .y) n (a .message .now) (l .local)) z (l .inv .2) in
-    (C .size, coefficients-all (a .code) (a .y) (a .message .now) (l .local) (good (a .code) (s .pre .2) .r-most) C)
+    let C = subst (λ n. Local-from (a .shape .field) (a .shape .r) (a .y) n (a .message .now) (l .local)) z (l .inv .2) in
+    (C .size, local-all (a .shape) (a .y) (a .message .now) (l .local) (r-most (a .shape) (s .pre .2)) C)
 
 pub local-polynomial-spec : {M : Type 1} → statement M
 local-polynomial-spec =

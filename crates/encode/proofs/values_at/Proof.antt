@@ -2,13 +2,13 @@ use mathlib.Core.Path.{_≡_, sym, subst}
 use Prim.Native.Nat.{suc, _-_, _≤_}
 use native.Mathlib.Omega.{arith}
 use lib.ListN.{take, drop}
-use Rattle.encode.specs.Local.{Values}
+use Rattle.encode.specs.Step.{Values-at}
 use Rattle.encode.proofs.Horner.{values-none, values-more}
 use Rattle.encode.proofs.values_at.Statement.{statement}
 use Rattle.encode.proofs.values_at.Tie as tie
 
 abbrev Inv-loop : tie.InvT-loop
-Inv-loop field coefficients r points size powers logs values₀ i₀ values i = (i ≤ r) × Values field (drop i (take r coefficients)) points size values
+Inv-loop field coefficients r points size powers logs values₀ i₀ values i = (i ≤ r) × Values-at field (drop i (take r coefficients)) points size values
 
 abbrev μ-loop : tie.MeasureT-loop
 μ-loop field coefficients r points size powers logs values₀ i₀ values i = i
@@ -44,7 +44,7 @@ loop-again c =
       omega arith,
       values-more (a .field) (a .r) (a .coefficients .now) (a .points .now) (a .size) (s .pre .2) i (l .values) (c .before .horner-step .last .1 .1 .1 .1 .0) (omega arith)
           (c .before .horner-step .ensures)
-          (subst (λ n. Values (a .field) (drop n (take (a .r) (a .coefficients .now))) (a .points .now) (a .size) (l .values)) e (l .inv .1)),
+          (subst (λ n. Values-at (a .field) (drop n (take (a .r) (a .coefficients .now))) (a .points .now) (a .size) (l .values)) e (l .inv .1)),
     )
 
 returns : tie.Need-returns Inv-loop μ-loop
@@ -52,7 +52,7 @@ returns c =
     let a = c .before .before .before .before .args in
     let l = c .before .loop in
     let z : l .i ≡ 0 = omega arith in
-    subst (λ n. Values (a .field) (drop n (take (a .r) (a .coefficients .now))) (a .points .now) (a .size) (l .values)) z (l .inv .1)
+    subst (λ n. Values-at (a .field) (drop n (take (a .r) (a .coefficients .now))) (a .points .now) (a .size) (l .values)) z (l .inv .1)
 
 pub values-at-spec : {M : Type 1} → statement M
 values-at-spec =

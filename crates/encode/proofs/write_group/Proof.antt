@@ -1,106 +1,127 @@
 use borrow.Author.Needs.{needs}
-use mathlib.Core.Path.{_≡_, refl, sym}
 use Prim.Native.Nat.{_+_, _*_, _-_, _≤_}
 use native.Mathlib.Omega.{arith}
-use lib.ListN.{take}
-use Rattle.code.specs.Code.{tolerance, size}
-use Rattle.code.proofs.Accepted.{good, n-byte}
-use Rattle.code.proofs.Codewords.{message-is}
-use Rattle.encode.proofs.Locals.{member-symbol}
-use Rattle.encode.proofs.Slots.{slot-room, Copied, copied-none, copied-more, group-copied}
+use Rattle.algebra.proofs.Scattered.{Scattered, scattered-none, scattered-more}
+use Rattle.code.proofs.Bounds.{n-most}
+use Rattle.encode.proofs.Groups.{slot-room, slots-apart, group-scattered}
 use Rattle.encode.proofs.write_group.Statement.{statement}
 use Rattle.encode.proofs.write_group.Tie as tie
 
 abbrev Inv-loop : tie.InvT-loop
-Inv-loop message group codeword₀ powers logs field r size first y values i₀ codeword i = (i ≤ size) × Copied values first i codeword₀ codeword
+Inv-loop message group codeword₀ powers logs size first step symbols i₀ codeword i =
+    (i ≤ size) × Scattered (λ m. first + m * step) symbols i codeword₀ codeword
 
 abbrev μ-loop : tie.MeasureT-loop
-μ-loop message group codeword₀ powers logs field r size first y values i₀ codeword i = size - i
+μ-loop message group codeword₀ powers logs size first step symbols i₀ codeword i = size - i
 
-cast-r : tie.Need-cast-r Inv-loop μ-loop
-cast-r c = search needs
+size-of-requires : tie.Need-size-of-requires Inv-loop μ-loop
+size-of-requires c κs = c .before .before .pre .2 .family .placed
 
-add-size : tie.Need-add-size Inv-loop μ-loop
-add-size c = let s = c .before .before .before in omega (arith, good (s .args .code) (s .pre .2) .r-most)
+cast-size : tie.Need-cast-size Inv-loop μ-loop
+cast-size c = search needs
 
-mul-first : tie.Need-mul-first Inv-loop μ-loop
-mul-first c = let s = c .before .before .before in omega (arith, slot-room (s .args .code) (good (s .args .code) (s .pre .2)) (s .args .group) 0 (s .pre .4) (omega arith), n-byte (s .args .code) (good (s .args .code) (s .pre .2)))
+first-of-requires : tie.Need-first-of-requires Inv-loop μ-loop
+first-of-requires c κs = let s = c .before .before .before in (s .pre .2 .family .placed, s .pre .4)
 
-points-of-requires : tie.Need-points-of-requires Inv-loop μ-loop
-points-of-requires c κs = let s = c .before .before .before in (s .pre .2, s .pre .4)
+cast-first : tie.Need-cast-first Inv-loop μ-loop
+cast-first c = search needs
 
-array-read-power-of : tie.Need-array-read-power-of Inv-loop μ-loop
-array-read-power-of c = omega arith
+step-of-requires : tie.Need-step-of-requires Inv-loop μ-loop
+step-of-requires c κs = c .before .before .before .before .pre .2 .family .placed
 
-add-power-of : tie.Need-add-power-of Inv-loop μ-loop
-add-power-of c = let s = c .before .before .before .before .before in omega (arith, good (s .args .code) (s .pre .2) .r-most)
+cast-step : tie.Need-cast-step Inv-loop μ-loop
+cast-step c = search needs
 
-power-of-requires : tie.Need-power-of-requires Inv-loop μ-loop
-power-of-requires c κs = let s = c .before .before .before .before .before in (s .pre .0, s .pre .1)
-
-local-polynomial-requires : tie.Need-local-polynomial-requires Inv-loop μ-loop
-local-polynomial-requires c κs =
-    let s = c .before .before .before .before .before .before in
-    (s .pre .0, s .pre .1, s .pre .2, message-is (s .args .code) (s .args .message .now) (s .pre .3) .length-is)
-
-slice-aggregate-values-at : tie.Need-slice-aggregate-values-at Inv-loop μ-loop
-slice-aggregate-values-at c = sym (c .before .local-polynomial .ensures .0)
-
-slice-aggregate-values-at-2 : tie.Need-slice-aggregate-values-at-2 Inv-loop μ-loop
-slice-aggregate-values-at-2 c = sym (c .before .before .before .before .before .points-of .ensures .room)
-
-values-at-requires : tie.Need-values-at-requires Inv-loop μ-loop
-values-at-requires c κs =
-    let s = c .before .before .before .before .before .before .before .before .before in
-    (s .pre .0, s .pre .1, omega (arith, good (s .args .code) (s .pre .2) .r-most, c .before .before .local-polynomial .ensures .0), omega (arith, good (s .args .code) (s .pre .2) .r-most, c .before .before .before .before .before .points-of .ensures .room), omega (arith, good (s .args .code) (s .pre .2) .r-most))
+group-symbols-requires : tie.Need-group-symbols-requires Inv-loop μ-loop
+group-symbols-requires c κs = let s = c .before .before .before .before .before in (s .pre .0, s .pre .1, s .pre .2, s .pre .3, s .pre .4)
 
 loop-holds : tie.Need-loop-holds Inv-loop μ-loop
 loop-holds c =
-    let a = c .before .before .before .before .before .before .before .before .before .before .args in
-    (omega arith, copied-none (c .values-at .result) (a .group * (a .code .r + 1)) (a .codeword .now))
+    let f = c .before .before .first-of .result in
+    let t = c .before .step-of .result in
+    (omega arith, scattered-none (λ m. f + m * t) (c .group-symbols .result) (c .before .before .before .before .before .before .args .codeword .now))
 
 array-read-codeword : tie.Need-array-read-codeword Inv-loop μ-loop
-array-read-codeword c = let s = c .before .before .before .before .before .before .before .before .before .before .before .before in omega (arith, good (s .args .code) (s .pre .2) .r-most)
+array-read-codeword c =
+    let s = c .before .before .before .before .before .before .before .before in
+    omega (arith, s .pre .2 .family .placed .size-most, c .before .before .before .before .before .size-of .ensures)
+
+mul-codeword : tie.Need-mul-codeword Inv-loop μ-loop
+mul-codeword c =
+    let s = c .before .before .before .before .before .before .before .before in
+    let f = c .before .before .before .before .first-of in
+    let t = c .before .before .before .step-of in
+    let l = c .before .loop in
+    omega (
+      arith,
+      slot-room (s .args .shape) (s .pre .2) (s .args .group) (s .pre .4) (f .result) (t .result) (f .ensures) (t .ensures) (l .i)
+          (omega (arith, c .before .before .before .before .before .size-of .ensures)),
+      n-most (s .args .shape) (s .pre .2 .family .placed),
+    )
 
 add-codeword : tie.Need-add-codeword Inv-loop μ-loop
-add-codeword c = let s = c .before .before .before .before .before .before .before .before .before .before .before .before in omega (arith, slot-room (s .args .code) (good (s .args .code) (s .pre .2)) (s .args .group) (c .before .loop .i) (s .pre .4) (omega arith), n-byte (s .args .code) (good (s .args .code) (s .pre .2)))
+add-codeword c =
+    let s = c .before .before .before .before .before .before .before .before in
+    let f = c .before .before .before .before .first-of in
+    let t = c .before .before .before .step-of in
+    let l = c .before .loop in
+    omega (
+      arith,
+      slot-room (s .args .shape) (s .pre .2) (s .args .group) (s .pre .4) (f .result) (t .result) (f .ensures) (t .ensures) (l .i)
+          (omega (arith, c .before .before .before .before .before .size-of .ensures)),
+      n-most (s .args .shape) (s .pre .2 .family .placed),
+    )
 
 slice-write-codeword : tie.Need-slice-write-codeword Inv-loop μ-loop
-slice-write-codeword c = let s = c .before .before .before .before .before .before .before .before .before .before .before .before in omega (arith, slot-room (s .args .code) (good (s .args .code) (s .pre .2)) (s .args .group) (c .before .loop .i) (s .pre .4) (omega arith), s .pre .5, c .before .loop .inv .1 .room)
+slice-write-codeword c =
+    let s = c .before .before .before .before .before .before .before .before in
+    let f = c .before .before .before .before .first-of in
+    let t = c .before .before .before .step-of in
+    let l = c .before .loop in
+    omega (
+      arith,
+      slot-room (s .args .shape) (s .pre .2) (s .args .group) (s .pre .4) (f .result) (t .result) (f .ensures) (t .ensures) (l .i)
+          (omega (arith, c .before .before .before .before .before .size-of .ensures)),
+      s .pre .5,
+      l .inv .1 .size,
+    )
 
 add-i : tie.Need-add-i Inv-loop μ-loop
-add-i c = let s = c .before .before .before .before .before .before .before .before .before .before .before .before in omega (arith, good (s .args .code) (s .pre .2) .r-most)
+add-i c =
+    let s = c .before .before .before .before .before .before .before .before in
+    omega (arith, s .pre .2 .family .placed .size-most, c .before .before .before .before .before .size-of .ensures)
 
 loop-less : tie.Need-loop-less Inv-loop μ-loop
 loop-less c = omega arith
 
 loop-again : tie.Need-loop-again Inv-loop μ-loop
 loop-again c =
-    let s = c .before .before .before .before .before .before .before .before .before .before .before .before in
+    let s = c .before .before .before .before .before .before .before .before in
     let a = s .args in
-    let l = c .before .loop in (
+    let f = c .before .before .before .before .first-of in
+    let t = c .before .before .before .step-of in
+    let l = c .before .loop in
+    let b = slot-room (a .shape) (s .pre .2) (a .group) (s .pre .4) (f .result) (t .result) (f .ensures) (t .ensures) (l .i)
+    (omega (arith, c .before .before .before .before .before .size-of .ensures)) in (
       omega arith,
-      copied-more (c .before .before .values-at .result) (a .group * (a .code .r + 1)) (l .i) (a .codeword .now) (l .codeword)
-          (omega (arith, slot-room (s .args .code) (good (s .args .code) (s .pre .2)) (s .args .group) (l .i) (s .pre .4) (omega arith), s .pre .5, l .inv .1 .room)) (l .inv .1),
+      scattered-more (λ m. f .result + m * t .result) (c .before .before .group-symbols .result) (l .i) (a .codeword .now) (l .codeword)
+          (omega (arith, b, s .pre .5, l .inv .1 .size))
+          (λ i h. slots-apart (a .shape) (s .pre .2) (a .group) (s .pre .4) (f .result) (t .result) (f .ensures) (t .ensures) i (l .i) h) (l .inv .1),
     )
 
 same-length : tie.Need-same-length Inv-loop μ-loop
-same-length c = c .before .loop .inv .1 .room
+same-length c = c .before .loop .inv .1 .size
 
 returns : tie.Need-returns Inv-loop μ-loop
-unfolding size tolerance
 returns c =
-    let s = c .before .before .before .before .before .before .before .before .before .before .before .before in
+    let s = c .before .before .before .before .before .before .before .before in
     let a = s .args in
+    let f = c .before .before .before .before .first-of in
+    let t = c .before .before .before .step-of in
+    let v = c .before .before .group-symbols in
     let l = c .before .loop in
-    let W = c .before .before .values-at in
-    let P = c .before .before .before .before .before .before .before .before .points-of in
-    let L = c .before .before .before .before .before .local-polynomial in
-    let z : l .i ≡ a .code .r + 1 = omega arith in
-    group-copied (a .code) (a .message .now) (W .result) (a .group) (a .group * (a .code .r + 1)) (l .i) (a .codeword .now) (l .codeword) refl z
-    (λ i h. member-symbol (a .code) (good (a .code) (s .pre .2)) (a .message .now) (message-is (a .code) (a .message .now) (s .pre .3)) (a .group) i
-    (c .before .before .before .before .before .before .power-of .result) (P .result) (take (a .code .r) (L .result)) (W .result) h (P .ensures) (c .before .before .before .before .before .before .power-of .ensures) (L .ensures .1) (W .ensures))
-    (l .inv .1)
+    group-scattered (a .shape) (s .pre .2) (a .group) (s .pre .4) (f .result) (t .result) (f .ensures) (t .ensures) (a .message .now) (v .result) (l .i)
+    (a .codeword .now) (l .codeword) (omega (arith, c .before .before .before .before .before .size-of .ensures)) (v .ensures) (l .inv .1)
 
 pub write-group-spec : {M : Type 1} → statement M
 write-group-spec =
@@ -108,19 +129,16 @@ write-group-spec =
     (tie.spec
     Inv-loop
     μ-loop
-    cast-r
-    add-size
-    mul-first
-    points-of-requires
-    array-read-power-of
-    add-power-of
-    power-of-requires
-    local-polynomial-requires
-    slice-aggregate-values-at
-    slice-aggregate-values-at-2
-    values-at-requires
+    size-of-requires
+    cast-size
+    first-of-requires
+    cast-first
+    step-of-requires
+    cast-step
+    group-symbols-requires
     loop-holds
     array-read-codeword
+    mul-codeword
     add-codeword
     slice-write-codeword
     add-i

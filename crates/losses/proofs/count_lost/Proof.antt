@@ -1,11 +1,12 @@
 use borrow.Author.Needs.{needs}
-use mathlib.Core.Path.{_≡_, ap, _∙_}
+use mathlib.Core.Path.{ap, _∙_}
 use native.Mathlib.Omega.{arith}
 use lib.ListN.{length}
 use Rattle.algebra.specs.Sequence.{count}
 use Rattle.algebra.proofs.Sequence.{count-most}
-use Rattle.code.specs.Erasure.{lost, lost-number}
-use Rattle.code.proofs.Accepted.{good, n-byte}
+use Rattle.code.specs.Decoding.{lost}
+use Rattle.code.specs.Erasure.{lost-number}
+use Rattle.code.proofs.Bounds.{n-most}
 use Rattle.losses.proofs.count_lost.Statement.{statement}
 use Rattle.losses.proofs.count_lost.Tie as tie
 
@@ -16,7 +17,7 @@ cast-result : tie.Need-cast-result
 cast-result c =
     let s = c .before .before in
     let a = s .args in
-    omega (arith, c .losses-in .ensures, s .pre .1, count-most (lost (a .marks .now)) (length (a .marks .now)), n-byte (a .code) (good (a .code) (s .pre .0)))
+    omega (arith, c .losses-in .ensures, s .pre .1, count-most (lost (a .marks .now)) (length (a .marks .now)), n-most (a .shape) (s .pre .0))
 
 returns : tie.Need-returns
 unfolding lost-number

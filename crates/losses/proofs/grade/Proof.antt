@@ -1,29 +1,20 @@
-use mathlib.Core.Path.{refl, sym, _∙_}
-use Rattle.code.proofs.Answers.{answers-no, answers-yes}
-use Rattle.code.specs.Erasure.{grade}
-use Rattle.losses.specs.Losses.{marks-refusal, Grade-says}
-use Rattle.losses.proofs.Refusals.{marks-passed}
+use mathlib.Core.Path.{sym, _∙_}
+use Rattle.code.proofs.Accepted.{plain-of}
 use borrow.Author.Needs.{needs}
 use Rattle.losses.proofs.grade.Statement.{statement}
 use Rattle.losses.proofs.grade.Tie as tie
 
-marks-refusal-requires : tie.Need-marks-refusal-requires
-marks-refusal-requires c κs = search needs
+code-refusal-requires : tie.Need-code-refusal-requires
+code-refusal-requires c κs = search needs
+
+single-requires : tie.Need-single-requires
+single-requires c κs = search needs
+
+grade-with-requires : tie.Need-grade-with-requires
+grade-with-requires c κs z = rw (c .single .ensures) (plain-of (c .before .before .before .args .code) (sym (c .before .code-refusal .ensures) ∙ z))
 
 returns : tie.Need-returns
-unfolding Grade-says
-returns c =
-    let a = c .before .before .before .args in
-    answers-no (marks-refusal (a .code) (a .marks .now)) (grade (a .code) (a .marks .now)) _ (c .before .marks-refusal .ensures) (c .if1 .taken) refl
-
-grade-of-requires : tie.Need-grade-of-requires
-grade-of-requires c κs = let a = c .before .before .before .args in marks-passed (a .code) (a .marks .now) (sym (c .before .marks-refusal .ensures) ∙ c .if1 .left)
-
-returns-2 : tie.Need-returns-2
-unfolding Grade-says
-returns-2 c =
-    let a = c .before .before .before .before .args in
-    answers-yes (marks-refusal (a .code) (a .marks .now)) (grade (a .code) (a .marks .now)) _ (sym (c .before .before .marks-refusal .ensures) ∙ c .before .if1 .left) refl (c .grade-of .ensures)
+returns c = rw (c .before .before .code-refusal .ensures, c .before .single .ensures) at (c .grade-with .ensures)
 
 pub grade-spec : {M : Type 1} → statement M
-grade-spec = tie.close (tie.spec marks-refusal-requires returns grade-of-requires returns-2)
+grade-spec = tie.close (tie.spec code-refusal-requires single-requires grade-with-requires returns)

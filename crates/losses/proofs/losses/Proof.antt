@@ -1,29 +1,20 @@
-use mathlib.Core.Path.{refl, sym, _∙_}
-use Rattle.code.proofs.Answers.{answers-no, answers-yes}
-use Rattle.code.specs.Erasure.{lost-number}
-use Rattle.losses.specs.Losses.{marks-refusal, Losses-says}
-use Rattle.losses.proofs.Refusals.{marks-passed}
+use mathlib.Core.Path.{sym, _∙_}
+use Rattle.code.proofs.Accepted.{plain-of}
 use borrow.Author.Needs.{needs}
 use Rattle.losses.proofs.losses.Statement.{statement}
 use Rattle.losses.proofs.losses.Tie as tie
 
-marks-refusal-requires : tie.Need-marks-refusal-requires
-marks-refusal-requires c κs = search needs
+code-refusal-requires : tie.Need-code-refusal-requires
+code-refusal-requires c κs = search needs
+
+single-requires : tie.Need-single-requires
+single-requires c κs = search needs
+
+losses-with-requires : tie.Need-losses-with-requires
+losses-with-requires c κs z = rw (c .single .ensures) (plain-of (c .before .before .before .args .code) (sym (c .before .code-refusal .ensures) ∙ z))
 
 returns : tie.Need-returns
-unfolding Losses-says
-returns c =
-    let a = c .before .before .before .args in
-    answers-no (marks-refusal (a .code) (a .marks .now)) (lost-number (a .code) (a .marks .now)) _ (c .before .marks-refusal .ensures) (c .if1 .taken) refl
-
-count-lost-requires : tie.Need-count-lost-requires
-count-lost-requires c κs = let a = c .before .before .before .args in marks-passed (a .code) (a .marks .now) (sym (c .before .marks-refusal .ensures) ∙ c .if1 .left)
-
-returns-2 : tie.Need-returns-2
-unfolding Losses-says
-returns-2 c =
-    let a = c .before .before .before .before .args in
-    answers-yes (marks-refusal (a .code) (a .marks .now)) (lost-number (a .code) (a .marks .now)) _ (sym (c .before .before .marks-refusal .ensures) ∙ c .before .if1 .left) refl (c .count-lost .ensures)
+returns c = rw (c .before .before .code-refusal .ensures, c .before .single .ensures) at (c .losses-with .ensures)
 
 pub losses-spec : {M : Type 1} → statement M
-losses-spec = tie.close (tie.spec marks-refusal-requires returns count-lost-requires returns-2)
+losses-spec = tie.close (tie.spec code-refusal-requires single-requires losses-with-requires returns)

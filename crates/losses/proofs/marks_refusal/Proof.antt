@@ -1,43 +1,33 @@
-use mathlib.Core.Path.{sym, _∙_}
-use borrow.Author.Tests.{not-true, not-false}
-use Rattle.losses.proofs.Refusals.{marks-stop, marks-five, marks-eight, marks-none}
 use borrow.Author.Needs.{needs}
+use mathlib.Core.Path.{ap₂, _∙_}
+use lib.Dec.{eqb}
+use lib.ListN.{length}
+use Rattle.algebra.specs.Sequence.{all-below}
+use Rattle.code.specs.Question.{ask, or-ask}
+use Rattle.code.proofs.Questions.{ask-then}
+use Rattle.losses.specs.Losses.{marks-refusal}
 use Rattle.losses.proofs.marks_refusal.Statement.{statement}
 use Rattle.losses.proofs.marks_refusal.Tie as tie
 
-code-refusal-requires : tie.Need-code-refusal-requires
-code-refusal-requires c κs = search needs
+cast-ask : tie.Need-cast-ask
+cast-ask c = search needs
 
-returns : tie.Need-returns
-returns c = let a = c .before .before .before .args in marks-stop (a .code) (a .marks .now) (c .before .code-refusal .result) (c .before .code-refusal .ensures) (c .if1 .taken)
-
-cast-n : tie.Need-cast-n
-cast-n c = search needs
-
-returns-2 : tie.Need-returns-2
-returns-2 c = let a = c .before .before .before .before .before .args in marks-five (a .code) (a .marks .now) (sym (c .before .before .before .code-refusal .ensures) ∙ c .before .before .if1 .left) (c .if2 .taken)
+ask-requires : tie.Need-ask-requires
+ask-requires c κs = search needs
 
 all-below-requires : tie.Need-all-below-requires
 all-below-requires c κs = search needs
 
-returns-3 : tie.Need-returns-3
-returns-3 c =
-    let a = c .before .before .before .before .before .before .before .args in
-    marks-eight (a .code) (a .marks .now) (sym (c .before .before .before .before .before .code-refusal .ensures) ∙ c .before .before .before .before .if1 .left) (c .before .before .if2 .left) (sym (c .before .all-below .ensures) ∙ not-true _ (c .if3 .taken))
+ask-requires-2 : tie.Need-ask-requires-2
+ask-requires-2 c κs = search needs
 
-returns-4 : tie.Need-returns-4
-returns-4 c =
-    let a = c .before .before .before .before .before .before .before .args in
-    marks-none (a .code) (a .marks .now) (sym (c .before .before .before .before .before .code-refusal .ensures) ∙ c .before .before .before .before .if1 .left) (c .before .before .if2 .left) (sym (c .before .all-below .ensures) ∙ not-false _ (c .if3 .left))
+returns : tie.Need-returns
+unfolding marks-refusal
+returns c =
+    let a = c .before .before .before .before .before .args in
+    c .ask2 .ensures ∙ ap₂ (λ x b. or-ask x (ask b 8 0)) (c .before .before .ask .ensures) (c .before .all-below .ensures)
+    ∙ ask-then (a .refusal) (eqb (length (a .marks .now)) (a .shape .n)) 4 (ask (all-below 2 (a .marks .now)) 8 0)
 
 pub marks-refusal-spec : {M : Type 1} → statement M
 marks-refusal-spec =
-    tie.close
-    (tie.spec
-    code-refusal-requires
-    returns
-    cast-n
-    returns-2
-    all-below-requires
-    returns-3
-    returns-4)
+    tie.close (tie.spec cast-ask ask-requires all-below-requires ask-requires-2 returns)

@@ -2,7 +2,7 @@ use mathlib.Core.Path.{_≡_, refl}
 use borrow.Author.Needs.{needs}
 use borrow.Author.Tests.{eq-eqb, ne-eqb}
 use Rattle.algebra.specs.Sequence.{at}
-use Rattle.code.specs.Erasure.{lost}
+use Rattle.code.specs.Decoding.{lost}
 use Rattle.promise.proofs.held.Statement.{statement}
 use Rattle.promise.proofs.held.Tie as tie
 

@@ -6,7 +6,7 @@ use native.Mathlib.Omega.{arith}
 use lib.ListN.{length}
 use Rattle.algebra.specs.Sequence.{at}
 use Rattle.algebra.proofs.Filling.{Filled, filled-none, filled-more, filled-all}
-use Rattle.code.specs.Erasure.{lost}
+use Rattle.code.specs.Decoding.{lost}
 use Rattle.promise.specs.RoundTrip.{after-loss}
 use Rattle.promise.proofs.lose.Statement.{statement}
 use Rattle.promise.proofs.lose.Tie as tie

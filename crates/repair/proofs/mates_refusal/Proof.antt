@@ -1,94 +1,97 @@
 use borrow.Author.Needs.{needs}
-use mathlib.Core.Path.{_≡_, refl, sym, ap, _∙_}
-use mathlib.Core.Logic.{_≢_}
-use mathlib.Core.Bool.{true, false, _&&_}
-use Prim.Native.Nat.{ℕ, _*_, _≤_, _<_}
+use mathlib.Core.Path.{_≡_, sym, ap, _∙_}
+use mathlib.Core.Bool.{_&&_}
+use mathlib.Core.List.{List}
+use Prim.Native.Nat.{ℕ, _*_, _≤_}
 use native.Mathlib.Nat.{mul-le-mul}
 use native.Mathlib.Omega.{arith}
-use lib.Dec.{leb, eqb}
+use lib.Dec.{leb, ltb, eqb, leb→le}
 use lib.ListN.{length}
-use borrow.Author.Tests.{lt-ltb, le-ltb, le-leb, lt-leb, eq-eqb, ne-eqb, not-true, not-false}
 use Rattle.algebra.specs.Sequence.{all-below}
 use Rattle.field.specs.Field.{q}
-use Rattle.code.specs.Question.{ask}
-use Rattle.code.specs.Code.{code-refusal}
-use Rattle.code.specs.declared.Code.{Code}
-use Rattle.code.proofs.Accepted.{good}
-use Rattle.code.proofs.Questions.{ask-no, ask-yes, or-ask-stop, or-ask-on, and-no-left, and-no-right}
+use Rattle.code.specs.declared.Shape.{Shape}
+use Rattle.code.specs.Question.{ask, or-ask}
+use Rattle.code.proofs.Questions.{ask-then, ask-and, or-ask-stop, or-ask-passed, asked}
+use Rattle.code.proofs.Bounds.{r-most}
 use Rattle.repair.specs.Mates.{strips-fit, mates-refusal}
 use Rattle.repair.proofs.mates_refusal.Statement.{statement}
 use Rattle.repair.proofs.mates_refusal.Tie as tie
 
-module _ (c : Code) (l n : ℕ) where
-  short : l < 1 → strips-fit c l n ≡ false
-  unfolding strips-fit
-  short h = and-no-left (leb 1 l && leb l 4096) (eqb n (c .r * l)) (and-no-left (leb 1 l) (leb l 4096) (lt-leb 1 l h))
+-- the answers as they are asked for: b after the length of a strip, d after the slot
+module _ (n : ℕ) (s : Shape) (p l : ℕ) (xs : List ℕ) where
+  abbrev last : ℕ
+  last = ask (all-below (q (s .field)) xs) 6 0
 
-  long : 4096 < l → strips-fit c l n ≡ false
-  unfolding strips-fit
-  long h = and-no-left (leb 1 l && leb l 4096) (eqb n (c .r * l)) (and-no-right (leb 1 l) (leb l 4096) (lt-leb l 4096 h))
+  after-length : (b : ℕ) → b ≡ or-ask (or-ask n (ask (leb 1 l) 5 0)) (ask (leb l 4096) 5 0)
+      → or-ask b (ask (eqb (length xs) (s .r * l)) 5 (ask (ltb p (s .n)) 7 last)) ≡ mates-refusal n s p l xs
+  unfolding mates-refusal strips-fit
+  after-length b e =
+      let fit = eqb (length xs) (s .r * l) in
+      let rest : ℕ = ask (ltb p (s .n)) 7 last in
+      ap (λ b. or-ask b (ask fit 5 rest)) e ∙ ask-then (or-ask n (ask (leb 1 l) 5 0)) (leb l 4096) 4 (ask fit 5 rest)
+      ∙ ask-then n (leb 1 l) 4 (ask (leb l 4096) 5 (ask fit 5 rest))
+      ∙ ap (or-ask n) (ask-and (leb 1 l) (leb l 4096) 5 (ask fit 5 rest) ∙ ask-and (leb 1 l && leb l 4096) fit 5 rest)
 
-  unequal : n ≢ c .r * l → strips-fit c l n ≡ false
-  unfolding strips-fit
-  unequal h = and-no-right (leb 1 l && leb l 4096) (eqb n (c .r * l)) (ne-eqb n (c .r * l) h)
+  after-slot : (b d : ℕ) → b ≡ or-ask (or-ask n (ask (leb 1 l) 5 0)) (ask (leb l 4096) 5 0)
+      → d ≡ or-ask (or-ask b (ask (eqb (length xs) (s .r * l)) 5 0)) (ask (ltb p (s .n)) 7 0) → or-ask d last ≡ mates-refusal n s p l xs
+  after-slot b d e k =
+      let fit = eqb (length xs) (s .r * l) in
+      ap (λ d. or-ask d last) k ∙ ask-then (or-ask b (ask fit 5 0)) (ltb p (s .n)) 6 last ∙ ask-then b fit 4 (ask (ltb p (s .n)) 7 last)
+      ∙ after-length b e
 
-  fit : 1 ≤ l → l ≤ 4096 → n ≡ c .r * l → strips-fit c l n ≡ true
-  unfolding strips-fit
-  fit h k e = rw (le-leb 1 l h, le-leb l 4096 k, eq-eqb n (c .r * l) e) refl
+-- after the length of a strip
+length-asked : (c : tie.After-ask2) → let a = c .before .before .before .args in
+    c .ask2 .result ≡ or-ask (or-ask (a .refusal) (ask (leb 1 (a .l)) 5 0)) (ask (leb (a .l) 4096) 5 0)
+length-asked c = let a = c .before .before .before .args in c .ask2 .ensures ∙ ap (λ x. or-ask x (ask (leb (a .l) 4096) 5 0)) (c .before .ask .ensures)
 
-code-refusal-requires : tie.Need-code-refusal-requires
-code-refusal-requires c κs = search needs
+-- after the slot
+slot-asked : (c : tie.After-ask4) → let s = c .before .before .before .before .before in let a = s .before .before .before .args in
+    c .ask4 .result ≡ or-ask (or-ask (s .ask2 .result) (ask (eqb (length (a .strips .now)) (a .shape .r * a .l)) 5 0)) (ask (ltb (a .slot) (a .shape .n)) 7 0)
+slot-asked c =
+    let a = c .before .before .before .before .before .before .before .before .args in
+    c .ask4 .ensures ∙ ap (λ x. or-ask x (ask (ltb (a .slot) (a .shape .n)) 7 0)) (c .before .before .ask3 .ensures)
+
+ask-requires : tie.Need-ask-requires
+ask-requires c κs = search needs
+
+ask-requires-2 : tie.Need-ask-requires-2
+ask-requires-2 c κs = search needs
 
 returns : tie.Need-returns
-unfolding mates-refusal
 returns c =
-    let a = c .before .before .before .args in
-    let e = c .before .code-refusal .ensures in
-    e ∙ or-ask-stop (code-refusal (a .code)) _ (λ z. c .if1 .taken (e ∙ z))
+    let b = c .before in
+    let a = b .before .before .before .args in
+    or-ask-stop (b .ask2 .result) _ (c .if1 .taken)
+    ∙ after-length (a .refusal) (a .shape) (a .slot) (a .l) (a .strips .now) (b .ask2 .result) (length-asked b)
 
-returns-2 : tie.Need-returns-2
-unfolding mates-refusal
-returns-2 c =
-    let s = c .before .before in
-    let a = s .before .before .args in
-    or-ask-on (code-refusal (a .code)) _ 5 (sym (s .code-refusal .ensures) ∙ c .before .if1 .left)
-    (ask-no 5 _ (short (a .code) (a .l) (length (a .strips .now)) (c .if2 .taken)))
+cast-ask : tie.Need-cast-ask
+cast-ask c = search needs
 
-returns-3 : tie.Need-returns-3
-unfolding mates-refusal
-returns-3 c =
-    let s = c .before .before .before in
-    let a = s .before .before .args in
-    or-ask-on (code-refusal (a .code)) _ 5 (sym (s .code-refusal .ensures) ∙ c .before .before .if1 .left)
-    (ask-no 5 _ (long (a .code) (a .l) (length (a .strips .now)) (c .if3 .taken)))
-
-cast-if4 : tie.Need-cast-if4
-cast-if4 c = search needs
-
-mul-if4 : tie.Need-mul-if4
-mul-if4 c =
-    let s = c .before .before .before .before in
-    let a = s .before .before .args in
-    let h = good (a .code) (sym (s .code-refusal .ensures) ∙ c .before .before .before .if1 .left) .r-most in
-    let m : a .code .r * a .l ≤ 16 * 4096 = mul-le-mul h (c .before .if3 .left) in
+-- the numbers are in range here
+mul-ask : tie.Need-mul-ask
+mul-ask c =
+    let b = c .before .before in
+    let s = b .before .before .before in
+    let a = s .args in
+    let t = or-ask-passed (or-ask (a .refusal) (ask (leb 1 (a .l)) 5 0)) (ask (leb (a .l) 4096) 5 0) (sym (length-asked b) ∙ c .before .if1 .left) in
+    let l = leb→le (a .l) 4096 (asked (leb (a .l) 4096) 4 0 (t .1) .0) in
+    let M = s .pre (or-ask-passed (a .refusal) (ask (leb 1 (a .l)) 5 0) (t .0) .0) in
+    let m : a .shape .r * a .l ≤ 16 * 4096 = mul-le-mul (r-most (a .shape) (M .placed)) l in
     omega arith
 
-returns-4 : tie.Need-returns-4
-unfolding mates-refusal
-returns-4 c =
-    let s = c .before .before .before .before .before in
-    let a = s .before .before .args in
-    or-ask-on (code-refusal (a .code)) _ 5 (sym (s .code-refusal .ensures) ∙ c .before .before .before .before .if1 .left)
-    (ask-no 5 _ (unequal (a .code) (a .l) (length (a .strips .now)) (c .if4 .taken)))
+ask-requires-3 : tie.Need-ask-requires-3
+ask-requires-3 c κs = search needs
 
-returns-5 : tie.Need-returns-5
-unfolding mates-refusal
-returns-5 c =
-    let s = c .before .before .before .before .before .before .before in
-    let a = s .before .before .args in
-    or-ask-on (code-refusal (a .code)) _ 7 (sym (s .code-refusal .ensures) ∙ c .before .before .before .before .before .before .if1 .left)
-    (ask-yes 5 (fit (a .code) (a .l) (length (a .strips .now)) (c .before .before .before .before .before .if2 .left) (c .before .before .before .before .if3 .left) (c .before .before .if4 .left))
-    (ask-no 7 _ (le-ltb (a .slot) (a .code .n) (c .if5 .taken))))
+ask-requires-4 : tie.Need-ask-requires-4
+ask-requires-4 c κs = search needs
+
+returns-2 : tie.Need-returns-2
+returns-2 c =
+    let d = c .before in
+    let b = d .before .before .before .before .before in
+    let a = b .before .before .before .args in
+    or-ask-stop (d .ask4 .result) _ (c .if2 .taken)
+    ∙ after-slot (a .refusal) (a .shape) (a .slot) (a .l) (a .strips .now) (b .ask2 .result) (d .ask4 .result) (length-asked b) (slot-asked d)
 
 order-requires : tie.Need-order-requires
 order-requires c κs = search needs
@@ -96,43 +99,31 @@ order-requires c κs = search needs
 all-below-requires : tie.Need-all-below-requires
 all-below-requires c κs = search needs
 
--- what all_below answered, of q
-below : (c : tie.After-all-below) → let a = c .before .before .before .before .before .before .before .before .before .before .before .args in
-    c .all-below .result ≡ all-below (q (a .code .field)) (a .strips .now)
-below c =
-    let a = c .before .before .before .before .before .before .before .before .before .before .before .args in
-    c .all-below .ensures ∙ ap (λ m. all-below m (a .strips .now)) (c .before .order .ensures .0)
+ask-requires-5 : tie.Need-ask-requires-5
+ask-requires-5 c κs = search needs
 
--- questions 1 to 5 and 7 are passed
-passed : (c : tie.Else5) (x n : ℕ) → let a = c .before .before .before .before .before .before .before .before .before .args in
-    x ≡ ask (all-below (q (a .code .field)) (a .strips .now)) 6 0 → x ≡ mates-refusal (a .code) (a .slot) (a .l) (a .strips .now)
-unfolding mates-refusal
-passed c x n e =
-    let s = c .before .before .before .before .before .before .before in
-    let a = s .before .before .args in
-    or-ask-on (code-refusal (a .code)) _ x (sym (s .code-refusal .ensures) ∙ c .before .before .before .before .before .before .if1 .left)
-    (ask-yes 5 (fit (a .code) (a .l) (length (a .strips .now)) (c .before .before .before .before .before .if2 .left) (c .before .before .before .before .if3 .left) (c .before .before .if4 .left))
-    (ask-yes 7 (lt-ltb (a .slot) (a .code .n) (c .if5 .left)) e))
-
-returns-6 : tie.Need-returns-6
-returns-6 c = passed (c .before .before .before) 6 0 (ask-no 6 0 (sym (below (c .before)) ∙ not-true (c .before .all-below .result) (c .if6 .taken)))
-
-returns-7 : tie.Need-returns-7
-returns-7 c = passed (c .before .before .before) 0 0 (ask-yes 6 (sym (below (c .before)) ∙ not-false (c .before .all-below .result) (c .if6 .left)) refl)
+returns-3 : tie.Need-returns-3
+returns-3 c =
+    let d = c .before .before .before .before in
+    let b = d .before .before .before .before .before in
+    let a = b .before .before .before .args in
+    c .ask5 .ensures
+    ∙ ap (λ t. or-ask (d .ask4 .result) (ask t 6 0)) (c .before .all-below .ensures ∙ ap (λ m. all-below m (a .strips .now)) (c .before .before .order .ensures .0))
+    ∙ after-slot (a .refusal) (a .shape) (a .slot) (a .l) (a .strips .now) (b .ask2 .result) (d .ask4 .result) (length-asked b) (slot-asked d)
 
 pub mates-refusal-spec : {M : Type 1} → statement M
 mates-refusal-spec =
     tie.close
     (tie.spec
-    code-refusal-requires
+    ask-requires
+    ask-requires-2
     returns
+    cast-ask
+    mul-ask
+    ask-requires-3
+    ask-requires-4
     returns-2
-    returns-3
-    cast-if4
-    mul-if4
-    returns-4
-    returns-5
     order-requires
     all-below-requires
-    returns-6
-    returns-7)
+    ask-requires-5
+    returns-3)

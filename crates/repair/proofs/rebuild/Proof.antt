@@ -1,85 +1,29 @@
 use borrow.Author.Needs.{needs}
-use mathlib.Core.Path.{_≡_, refl, sym, ap, _∙_}
-use native.Mathlib.Omega.{arith}
-use lib.ListN.{length}
-use Rattle.code.specs.Repair.{weights}
-use Rattle.code.proofs.Accepted.{good}
-use Rattle.code.proofs.Answers.{fills-no, fills-yes}
-use Rattle.repair.specs.Mates.{mates-refusal, Rebuild-says}
-use Rattle.repair.proofs.Sixteen.{length-sixteen}
-use Rattle.repair.proofs.Columns.{strip-is}
-use Rattle.repair.proofs.Refusals.{Mates-passed, mates-passed}
+use mathlib.Core.Path.{sym, _∙_}
+use Rattle.code.proofs.Accepted.{mending-of}
 use Rattle.repair.proofs.rebuild.Statement.{statement}
 use Rattle.repair.proofs.rebuild.Tie as tie
 
-mates-refusal-requires : tie.Need-mates-refusal-requires
-mates-refusal-requires c κs = search needs
+code-refusal-requires : tie.Need-code-refusal-requires
+code-refusal-requires c κs = search needs
 
-returns : tie.Need-returns
-unfolding Rebuild-says
-returns c =
-    let a = c .before .before .before .before .args in
-    fills-no (mates-refusal (a .code) (a .slot) (length (a .output .now)) (a .strips .now)) _ _ _ _ (c .before .mates-refusal .ensures) (c .if1 .taken) refl
+single-requires : tie.Need-single-requires
+single-requires c κs = search needs
 
-power-table-requires : tie.Need-power-table-requires
-power-table-requires c κs = search needs
-
-log-table-requires : tie.Need-log-table-requires
-log-table-requires c κs = search needs
-
--- no question was answered no
-zero : (c : tie.Else1) → let a = c .before .before .before .before .args in mates-refusal (a .code) (a .slot) (length (a .output .now)) (a .strips .now) ≡ 0
-zero c = sym (c .before .mates-refusal .ensures) ∙ c .if1 .left
-
-passed : (c : tie.Else1) → let a = c .before .before .before .before .args in Mates-passed (a .code) (a .slot) (length (a .output .now)) (a .strips .now)
-passed c = let a = c .before .before .before .before .args in mates-passed (a .code) (a .slot) (length (a .output .now)) (a .strips .now) (zero c)
-
-weights-of-requires : tie.Need-weights-of-requires
-weights-of-requires c κs =
-    let M = passed (c .before .before .before .before) in
-    (c .before .before .before .power-table .ensures, c .before .before .log-table .ensures, M .accepted, M .slot-below)
-
-cast-rebuild-columns : tie.Need-cast-rebuild-columns
-cast-rebuild-columns c = search needs
-
-rebuild-columns-requires : tie.Need-rebuild-columns-requires
-rebuild-columns-requires c κs =
-    let t = c .before .before .before .before .before .before .before .before .before .before in
-    let a = t .before .before .before .before .args in
-    let M = passed t in
-    let w = c .before .before .before .before .before .weights-of .ensures in
-    let r = good (a .code) (M .accepted) .r-most in (
-      c .before .before .before .before .before .before .before .before .before .power-table .ensures,
-      c .before .before .before .before .before .before .before .before .log-table .ensures,
-      r,
-      omega (arith, ap (λ l. length l) w, length-sixteen (weights (a .code) (a .slot))),
-      M .l-most,
-      M .length-is,
-    )
+rebuild-with-requires : tie.Need-rebuild-with-requires
+rebuild-with-requires c κs =
+    let s = c .before .before .before in
+    λ e. rw (c .before .single .ensures) (mending-of (s .before .before .args .code) (sym (c .before .before .code-refusal .ensures) ∙ e))
 
 same-length : tie.Need-same-length
 same-length c = search needs
 
-returns-2 : tie.Need-returns-2
-unfolding Rebuild-says
-returns-2 c =
-    let t = c .before .before .before .before .before .before .before .before .before .before .before .before .before in
-    let a = t .before .before .before .before .args in
-    let M = passed t in
-    let w = c .before .before .before .before .before .before .before .before .weights-of in
-    fills-yes (mates-refusal (a .code) (a .slot) (length (a .output .now)) (a .strips .now)) _ _ _ _ (zero t) refl
-    (c .before .before .rebuild-columns .ensures ∙ strip-is (a .code) (a .slot) (length (a .output .now)) (w .result) (a .strips .now) (M .accepted) (w .ensures))
+returns : tie.Need-returns
+returns c =
+    let w = c .before .before in
+    rw (w .before .before .before .code-refusal .ensures, w .before .before .single .ensures) at (w .rebuild-with .ensures)
 
 pub rebuild-spec : {M : Type 1} → statement M
 rebuild-spec =
     tie.close
-    (tie.spec
-    mates-refusal-requires
-    returns
-    power-table-requires
-    log-table-requires
-    weights-of-requires
-    cast-rebuild-columns
-    rebuild-columns-requires
-    same-length
-    returns-2)
+    (tie.spec code-refusal-requires single-requires rebuild-with-requires same-length returns)

@@ -1,11 +1,13 @@
 -- `put_stripe` meets its contract. Assumes nothing.
 use native.Mathlib.Omega.{arith}
 use lib.ListN.{length}
-use Rattle.code.proofs.Exponents.{k-most}
+use Rattle.code.specs.Family.{single, code-refusal}
+use Rattle.code.proofs.Accepted.{decodable-of}
+use Rattle.code.proofs.Bounds.{k-most}
 use Rattle.decode.specs.Recording.{outcome-number}
-use Rattle.decode.proofs.Refusals.{passed}
-use Rattle.reporting.proofs.Puts.{puts-as}
-use Rattle.reporting.proofs.Reporting.{drawn, outcome-most, small-record, record-lines}
+use Rattle.decode.proofs.Refusals.{handed}
+use Rattle.text.proofs.Puts.{puts-as}
+use Rattle.reporting.proofs.Reporting.{accepted-by, drawn, outcome-most, small-record, record-lines}
 use borrow.Author.Needs.{needs}
 use Rattle.reporting.proofs.put_stripe.Statement.{statement}
 use Rattle.reporting.proofs.put_stripe.Tie as tie
@@ -21,12 +23,12 @@ put-lines-requires c κs =
     let a = c .before .before .before .before .before .before .before .before .before .before .before .before .before .before .before .before .args in
     let e = c .before .before .before .before .before .before .before .before .before .before .before .before .before .before .before .before .pre .0 in
     let r = c .before .before .before .before .before .before .before .before .«record» in
-    let p = passed (a .code) (a .word .now) (a .marks .now) (length (a .message .now)) (length (a .work .now)) e in
+    let p = handed (code-refusal (a .code)) (single (a .code)) (a .word .now) (a .marks .now) (length (a .message .now)) (length (a .work .now)) (decodable-of (a .code)) e in
     let f = drawn (a .code) (a .word .now) (a .marks .now) (r .result) (a .message .now) (r .last .1 .1 .1 .0) (a .work .now) (r .last .1 .1 .1 .1 .0) e (r .ensures) in
     let o = outcome-most (r .result .record .outcome) in (
       c .before .before .before .before .before .before .before .before .before .before .before .before .before .before .before .before .pre .1,
-      omega (arith, r .kept .1 .1 .1 .0, p .message, k-most (a .code) (p .code)),
-      small-record (a .code) (a .marks .now) (r .result .record) (f .numbers) (c .before .before .outcome-number .result) (p .code) (omega (arith, c .before .before .outcome-number .ensures)),
+      omega (arith, r .kept .1 .1 .1 .0, p .message-size, k-most (single (a .code)) (p .shape .plain)),
+      small-record (a .code) (a .marks .now) (r .result .record) (f .numbers) (c .before .before .outcome-number .result) (accepted-by (a .code) (a .word .now) (a .marks .now) (length (a .message .now)) (length (a .work .now)) e) (omega (arith, c .before .before .outcome-number .ensures)),
     )
 
 same-length : tie.Need-same-length

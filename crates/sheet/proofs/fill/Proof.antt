@@ -1,17 +1,17 @@
--- `fill` meets its contract. The loop has written the first p of both buffers. Assumes nothing.
 use mathlib.Core.Path.{ap, _∙_}
 use Prim.Native.Nat.{_-_, _≤_}
 use native.Mathlib.Omega.{arith}
 use Rattle.algebra.proofs.Filling.{Filled, filled-none, filled-more, filled-front}
-use Rattle.sheet.specs.Sheet.{middle-word, symbol-of, mark-of}
+use Rattle.words.specs.Word.{word-symbol, word-mark}
+use Rattle.sheet.specs.Sheet.{middle-word}
 use Rattle.sheet.proofs.fill.Statement.{statement}
 use Rattle.sheet.proofs.fill.Tie as tie
 
 abbrev Inv-loop : tie.InvT-loop
 Inv-loop sheet n word₀ marks₀ p₀ word marks p =
     (p ≤ n)
-    × Filled (λ p. symbol-of (middle-word sheet p)) p word₀ word
-    × Filled (λ p. mark-of (middle-word sheet p)) p marks₀ marks
+    × Filled (λ p. word-symbol (middle-word sheet p)) p word₀ word
+    × Filled (λ p. word-mark (middle-word sheet p)) p marks₀ marks
 
 abbrev μ-loop : tie.MeasureT-loop
 μ-loop sheet n word₀ marks₀ p₀ word marks p = n - p
@@ -20,8 +20,8 @@ loop-holds : tie.Need-loop-holds Inv-loop μ-loop
 loop-holds c =
     let a = c .before .before .before .args in (
       omega arith,
-      filled-none (λ p. symbol-of (middle-word (a .sheet .now) p)) (a .word .now),
-      filled-none (λ p. mark-of (middle-word (a .sheet .now) p)) (a .marks .now),
+      filled-none (λ p. word-symbol (middle-word (a .sheet .now) p)) (a .word .now),
+      filled-none (λ p. word-mark (middle-word (a .sheet .now) p)) (a .marks .now),
     )
 
 add-word-at : tie.Need-add-word-at Inv-loop μ-loop
@@ -30,14 +30,14 @@ add-word-at c = omega arith
 word-at-requires : tie.Need-word-at-requires Inv-loop μ-loop
 word-at-requires c κs = omega arith
 
-symbol-of-requires : tie.Need-symbol-of-requires Inv-loop μ-loop
-symbol-of-requires c κs = tt
+word-symbol-requires : tie.Need-word-symbol-requires Inv-loop μ-loop
+word-symbol-requires c κs = tt
 
 slice-write-word : tie.Need-slice-write-word Inv-loop μ-loop
 slice-write-word c = omega arith
 
-mark-of-requires : tie.Need-mark-of-requires Inv-loop μ-loop
-mark-of-requires c κs = tt
+word-mark-requires : tie.Need-word-mark-requires Inv-loop μ-loop
+word-mark-requires c κs = tt
 
 slice-write-marks : tie.Need-slice-write-marks Inv-loop μ-loop
 slice-write-marks c = omega arith
@@ -55,10 +55,10 @@ loop-again c =
     let a = c .before .before .before .before .before .before .before .before .args in
     let e = c .before .before .word-at .ensures in (
       omega arith,
-      filled-more (λ p. symbol-of (middle-word (a .sheet .now) p)) (l .p) (c .before .symbol-of .result) (a .word .now) (l .word) (omega (arith, l .inv .1 .size))
-          (c .before .symbol-of .ensures ∙ ap symbol-of e) (l .inv .1),
-      filled-more (λ p. mark-of (middle-word (a .sheet .now) p)) (l .p) (c .mark-of .result) (a .marks .now) (l .marks) (omega (arith, l .inv .2 .size))
-          (c .mark-of .ensures ∙ ap mark-of e) (l .inv .2),
+      filled-more (λ p. word-symbol (middle-word (a .sheet .now) p)) (l .p) (c .before .word-symbol .result) (a .word .now) (l .word) (omega (arith, l .inv .1 .size))
+          (c .before .word-symbol .ensures ∙ ap word-symbol e) (l .inv .1),
+      filled-more (λ p. word-mark (middle-word (a .sheet .now) p)) (l .p) (c .word-mark .result) (a .marks .now) (l .marks) (omega (arith, l .inv .2 .size))
+          (c .word-mark .ensures ∙ ap word-mark e) (l .inv .2),
     )
 
 same-length : tie.Need-same-length Inv-loop μ-loop
@@ -71,8 +71,8 @@ returns : tie.Need-returns Inv-loop μ-loop
 returns c =
     let l = c .before .loop in
     let a = c .before .before .before .before .before .args in (
-      filled-front (λ p. symbol-of (middle-word (a .sheet .now) p)) (l .p) (a .n) (a .word .now) (l .word) (omega arith) (omega arith) (l .inv .1),
-      filled-front (λ p. mark-of (middle-word (a .sheet .now) p)) (l .p) (a .n) (a .marks .now) (l .marks) (omega arith) (omega arith) (l .inv .2),
+      filled-front (λ p. word-symbol (middle-word (a .sheet .now) p)) (l .p) (a .n) (a .word .now) (l .word) (omega arith) (omega arith) (l .inv .1),
+      filled-front (λ p. word-mark (middle-word (a .sheet .now) p)) (l .p) (a .n) (a .marks .now) (l .marks) (omega arith) (omega arith) (l .inv .2),
     )
 
 pub fill-spec : {M : Type 1} → statement M
@@ -84,9 +84,9 @@ fill-spec =
     loop-holds
     add-word-at
     word-at-requires
-    symbol-of-requires
+    word-symbol-requires
     slice-write-word
-    mark-of-requires
+    word-mark-requires
     slice-write-marks
     add-p
     loop-less

@@ -1,4 +1,3 @@
--- `refused` meets its contract. Assumes nothing.
 use mathlib.Core.Path.{refl}
 use Rattle.sheet.specs.Calls.{no-code}
 use Rattle.sheet.proofs.refused.Statement.{statement}

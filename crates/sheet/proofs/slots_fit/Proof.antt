@@ -1,11 +1,11 @@
--- `slots_fit` meets its contract. The loop has found the words of all slots below p in place. Assumes nothing.
 use mathlib.Core.Path.{_≡_, sym, ap, _∙_}
 use mathlib.Core.Bool.{true}
 use Prim.Native.Nat.{_-_, _≤_}
 use native.Mathlib.Omega.{arith}
 use borrow.Author.Tests.{not-true, not-false}
 use Rattle.algebra.specs.Sequence.{every}
-use Rattle.sheet.specs.Sheet.{middle-word, slot-fits}
+use Rattle.words.specs.Word.{slot-fits}
+use Rattle.sheet.specs.Sheet.{middle-word}
 use Rattle.algebra.proofs.Sequence.{every-not}
 use Rattle.algebra.proofs.Counting.{every-none, every-more, every-done}
 use Rattle.sheet.proofs.slots_fit.Statement.{statement}

@@ -1,116 +1,84 @@
--- `write_refusal` meets its contract: each question follows from those passed before it. Assumes nothing.
-use mathlib.Core.Path.{refl, sym, _∙_}
-use mathlib.Core.Bool.{_&&_}
-use Prim.Native.Nat.{_+_, _*_}
-use lib.Dec.{eqb}
-use lib.ListN.{length}
-use borrow.Author.Tests.{eq-eqb, ne-eqb, not-true, not-false}
-use Rattle.code.specs.Code.{code-refusal}
-use Rattle.code.proofs.Questions.{ask-no, ask-yes, or-ask-stop, or-ask-on, and-no-left, and-no-right, and-yes}
-use Rattle.sheet.specs.Calls.{write-refusal}
 use borrow.Author.Needs.{needs}
+use mathlib.Core.Path.{sym, ap, _∙_}
+use Rattle.code.specs.Question.{ask, or-ask}
+use Rattle.code.specs.Family.{single}
+use Rattle.code.specs.Erasure.{kept-below}
+use Rattle.code.proofs.Questions.{or-ask-stop}
+use Rattle.sheet.proofs.Refusals.{write-four, write-lengths}
 use Rattle.sheet.proofs.write_refusal.Statement.{statement}
 use Rattle.sheet.proofs.write_refusal.Tie as tie
-
-code-refusal-requires : tie.Need-code-refusal-requires
-code-refusal-requires c κs = search needs
-
-returns : tie.Need-returns
-unfolding write-refusal
-returns c =
-    let a = c .before .before .before .before .args in
-    let ws = a .word .now in
-    let ms = a .marks .now in
-    (c .before .code-refusal .ensures ∙ or-ask-stop (code-refusal (a .code)) _ (λ e. c .if1 .taken (c .before .code-refusal .ensures ∙ e)))
 
 cast-n : tie.Need-cast-n
 cast-n c = search needs
 
-returns-2 : tie.Need-returns-2
-unfolding write-refusal
-returns-2 c =
-    let a = c .before .before .before .before .before .before .args in
-    let ws = a .word .now in
-    let ms = a .marks .now in
-    or-ask-on (code-refusal (a .code)) _ _ (sym (c .before .before .before .code-refusal .ensures) ∙ c .before .before .if1 .left)
-    (ask-no 5 _ (and-no-left (eqb (length ws) (a .code .n)) ((eqb (length ms) (a .code .n)) && (eqb (a .bytes) (4 * ((a .code .n) + 2)))) (ne-eqb (length ws) (a .code .n) (c .if2 .taken))))
+code-refusal-requires : tie.Need-code-refusal-requires
+code-refusal-requires c κs = search needs
 
-returns-3 : tie.Need-returns-3
-unfolding write-refusal
-returns-3 c =
-    let a = c .before .before .before .before .before .before .before .args in
-    let ws = a .word .now in
-    let ms = a .marks .now in
-    or-ask-on (code-refusal (a .code)) _ _ (sym (c .before .before .before .before .code-refusal .ensures) ∙ c .before .before .before .if1 .left)
-    (ask-no 5 _ (and-no-right (eqb (length ws) (a .code .n)) ((eqb (length ms) (a .code .n)) && (eqb (a .bytes) (4 * ((a .code .n) + 2)))) (and-no-left (eqb (length ms) (a .code .n)) (eqb (a .bytes) (4 * ((a .code .n) + 2))) (ne-eqb (length ms) (a .code .n) (c .if3 .taken)))))
+ask-requires : tie.Need-ask-requires
+ask-requires c κs = search needs
 
-add-if4 : tie.Need-add-if4
-add-if4 c = search needs
+ask-requires-2 : tie.Need-ask-requires-2
+ask-requires-2 c κs = search needs
 
-mul-if4 : tie.Need-mul-if4
-mul-if4 c = search needs
+add-ask : tie.Need-add-ask
+add-ask c = search needs
 
-returns-4 : tie.Need-returns-4
-unfolding write-refusal
-returns-4 c =
-    let a = c .before .before .before .before .before .before .before .before .args in
-    let ws = a .word .now in
-    let ms = a .marks .now in
-    or-ask-on (code-refusal (a .code)) _ _ (sym (c .before .before .before .before .before .code-refusal .ensures) ∙ c .before .before .before .before .if1 .left)
-    (ask-no 5 _ (and-no-right (eqb (length ws) (a .code .n)) ((eqb (length ms) (a .code .n)) && (eqb (a .bytes) (4 * ((a .code .n) + 2)))) (and-no-right (eqb (length ms) (a .code .n)) (eqb (a .bytes) (4 * ((a .code .n) + 2))) (ne-eqb (a .bytes) (4 * ((a .code .n) + 2)) (c .if4 .taken)))))
+mul-ask : tie.Need-mul-ask
+mul-ask c = search needs
+
+ask-requires-3 : tie.Need-ask-requires-3
+ask-requires-3 c κs = search needs
 
 all-below-requires : tie.Need-all-below-requires
 all-below-requires c κs = search needs
 
-returns-5 : tie.Need-returns-5
-unfolding write-refusal
-returns-5 c =
+ask-requires-4 : tie.Need-ask-requires-4
+ask-requires-4 c κs = search needs
+
+returns : tie.Need-returns
+returns c =
     let a = c .before .before .before .before .before .before .before .before .before .before .args in
-    let ws = a .word .now in
-    let ms = a .marks .now in
-    or-ask-on (code-refusal (a .code)) _ _ (sym (c .before .before .before .before .before .before .before .code-refusal .ensures) ∙ c .before .before .before .before .before .before .if1 .left)
-    (ask-yes 5 (and-yes (eqb (length ws) (a .code .n)) ((eqb (length ms) (a .code .n)) && (eqb (a .bytes) (4 * ((a .code .n) + 2)))) (eq-eqb (length ws) (a .code .n) (c .before .before .before .before .if2 .left)) (and-yes (eqb (length ms) (a .code .n)) (eqb (a .bytes) (4 * ((a .code .n) + 2))) (eq-eqb (length ms) (a .code .n) (c .before .before .before .if3 .left)) (eq-eqb (a .bytes) (4 * ((a .code .n) + 2)) (c .before .before .if4 .left))))
-    (ask-no 8 _ (sym (c .before .all-below .ensures) ∙ not-true _ (c .if5 .taken))))
+    or-ask-stop (c .before .ask4 .result) (ask (kept-below (single (a .code)) (a .word .now) (a .marks .now)) 6 0) (c .if1 .taken)
+    ∙ write-four (a .code) (a .word .now) (a .marks .now) (a .bytes) (c .before .before .before .before .before .before .code-refusal .result) (c .before .before .before .before .before .ask .result) (c .before .before .before .before .ask2 .result) (c .before .before .before .ask3 .result) (c .before .ask4 .result) (c .before .before .all-below .result)
+    (c .before .before .before .before .before .before .code-refusal .ensures) (c .before .before .all-below .ensures) (c .before .before .before .before .before .ask .ensures) (c .before .before .before .before .ask2 .ensures) (c .before .before .before .ask3 .ensures) (c .before .ask4 .ensures)
+
+single-requires : tie.Need-single-requires
+single-requires c κs = search needs
 
 kept-below-requires : tie.Need-kept-below-requires
-kept-below-requires c κs = search needs
+kept-below-requires c κs =
+    let a = c .before .before .before .before .before .before .before .before .before .before .before .args in
+    let n = ap (λ s. s .n) (c .single .ensures) in
+    let l = write-lengths (a .code) (a .word .now) (a .marks .now) (a .bytes) (c .before .before .before .before .before .before .before .code-refusal .result) (c .before .before .before .before .before .before .ask .result) (c .before .before .before .before .before .ask2 .result) (c .before .before .before .before .ask3 .result) (c .before .before .ask4 .result) (c .before .before .before .all-below .result)
+    (c .before .before .before .before .before .before .before .code-refusal .ensures) (c .before .before .before .all-below .ensures) (c .before .before .before .before .before .before .ask .ensures) (c .before .before .before .before .before .ask2 .ensures) (c .before .before .before .before .ask3 .ensures) (c .before .before .ask4 .ensures) (c .before .if1 .left) in
+    (l .0 ∙ sym n, l .1 ∙ sym n)
 
-returns-6 : tie.Need-returns-6
-unfolding write-refusal
-returns-6 c =
-    let a = c .before .before .before .before .before .before .before .before .before .before .before .before .args in
-    let ws = a .word .now in
-    let ms = a .marks .now in
-    or-ask-on (code-refusal (a .code)) _ _ (sym (c .before .before .before .before .before .before .before .before .before .code-refusal .ensures) ∙ c .before .before .before .before .before .before .before .before .if1 .left)
-    (ask-yes 5 (and-yes (eqb (length ws) (a .code .n)) ((eqb (length ms) (a .code .n)) && (eqb (a .bytes) (4 * ((a .code .n) + 2)))) (eq-eqb (length ws) (a .code .n) (c .before .before .before .before .before .before .if2 .left)) (and-yes (eqb (length ms) (a .code .n)) (eqb (a .bytes) (4 * ((a .code .n) + 2))) (eq-eqb (length ms) (a .code .n) (c .before .before .before .before .before .if3 .left)) (eq-eqb (a .bytes) (4 * ((a .code .n) + 2)) (c .before .before .before .before .if4 .left))))
-    (ask-yes 8 (sym (c .before .before .before .all-below .ensures) ∙ not-false _ (c .before .before .if5 .left))
-    (ask-no 6 _ (sym (c .before .kept-below .ensures) ∙ not-true _ (c .if6 .taken)))))
+ask-requires-5 : tie.Need-ask-requires-5
+ask-requires-5 c κs = search needs
 
-returns-7 : tie.Need-returns-7
-unfolding write-refusal
-returns-7 c =
-    let a = c .before .before .before .before .before .before .before .before .before .before .before .before .args in
-    let ws = a .word .now in
-    let ms = a .marks .now in
-    or-ask-on (code-refusal (a .code)) _ _ (sym (c .before .before .before .before .before .before .before .before .before .code-refusal .ensures) ∙ c .before .before .before .before .before .before .before .before .if1 .left)
-    (ask-yes 5 (and-yes (eqb (length ws) (a .code .n)) ((eqb (length ms) (a .code .n)) && (eqb (a .bytes) (4 * ((a .code .n) + 2)))) (eq-eqb (length ws) (a .code .n) (c .before .before .before .before .before .before .if2 .left)) (and-yes (eqb (length ms) (a .code .n)) (eqb (a .bytes) (4 * ((a .code .n) + 2))) (eq-eqb (length ms) (a .code .n) (c .before .before .before .before .before .if3 .left)) (eq-eqb (a .bytes) (4 * ((a .code .n) + 2)) (c .before .before .before .before .if4 .left))))
-    (ask-yes 8 (sym (c .before .before .before .all-below .ensures) ∙ not-false _ (c .before .before .if5 .left))
-    (ask-yes 6 (sym (c .before .kept-below .ensures) ∙ not-false _ (c .if6 .left)) refl)))
+returns-2 : tie.Need-returns-2
+returns-2 c =
+    let a = c .before .before .before .before .before .before .before .before .before .before .before .before .before .args in
+    c .ask5 .ensures
+    ∙ ap (λ b. or-ask (c .before .before .before .before .ask4 .result) (ask b 6 0)) (c .before .kept-below .ensures ∙ ap (λ s. kept-below s (a .word .now) (a .marks .now)) (c .before .before .single .ensures))
+    ∙ write-four (a .code) (a .word .now) (a .marks .now) (a .bytes) (c .before .before .before .before .before .before .before .before .before .code-refusal .result) (c .before .before .before .before .before .before .before .before .ask .result) (c .before .before .before .before .before .before .before .ask2 .result) (c .before .before .before .before .before .before .ask3 .result) (c .before .before .before .before .ask4 .result) (c .before .before .before .before .before .all-below .result)
+    (c .before .before .before .before .before .before .before .before .before .code-refusal .ensures) (c .before .before .before .before .before .all-below .ensures) (c .before .before .before .before .before .before .before .before .ask .ensures) (c .before .before .before .before .before .before .before .ask2 .ensures) (c .before .before .before .before .before .before .ask3 .ensures) (c .before .before .before .before .ask4 .ensures)
 
 pub write-refusal-spec : {M : Type 1} → statement M
 write-refusal-spec =
     tie.close
     (tie.spec
-    code-refusal-requires
-    returns
     cast-n
-    returns-2
-    returns-3
-    add-if4
-    mul-if4
-    returns-4
+    code-refusal-requires
+    ask-requires
+    ask-requires-2
+    add-ask
+    mul-ask
+    ask-requires-3
     all-below-requires
-    returns-5
+    ask-requires-4
+    returns
+    single-requires
     kept-below-requires
-    returns-6
-    returns-7)
+    ask-requires-5
+    returns-2)

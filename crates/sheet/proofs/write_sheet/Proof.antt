@@ -1,4 +1,3 @@
--- `write_sheet` meets its contract. Assumes nothing.
 use mathlib.Core.Path.{refl, sym, _∙_}
 use lib.ListN.{length}
 use Rattle.code.proofs.Answers.{fills-no, fills-yes}

@@ -1,10 +1,9 @@
--- `write_slots` meets its contract. The loop has written the words of the slots below p. Assumes nothing.
 use mathlib.Core.Path.{_≡_, refl, ap, _∙_}
 use Prim.Native.Nat.{_-_, _≤_}
 use native.Mathlib.Omega.{arith}
 use lib.ListN.{length}
-use Rattle.sheet.specs.Calls.{put-slots}
-use Rattle.sheet.proofs.Bytes.{slots-none, slots-more}
+use Rattle.sheet.specs.Step.{put-slots}
+use Rattle.sheet.proofs.Writing.{slots-none, slots-more}
 use Rattle.sheet.proofs.write_slots.Statement.{statement}
 use Rattle.sheet.proofs.write_slots.Tie as tie
 

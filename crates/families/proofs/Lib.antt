@@ -1,0 +1,9 @@
+pub mod Search
+pub mod Sizes
+pub mod TwoWay
+pub mod Ways
+pub mod ShortBasis
+pub mod Short
+pub mod Passed
+pub mod Families
+pub mod Promises

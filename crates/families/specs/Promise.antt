@@ -1,0 +1,62 @@
+-- What is promised of the families: every promise of crate code that asks for Family or Plain holds of them. Assumes nothing: these are statements.
+--   General-are, Whole-are, Double-are, Two-way-are    what an accepted shape is
+--   Stay-accepted, Either-wiring                       the codes of the paper are among the general ones, in either wiring
+--   Ways-same, Ways-apart, Way-back                    two ways home are two groupings of one code
+--   Promises                                           all of them
+use mathlib.Core.Path.{_≡_}
+use mathlib.Core.Bool.{true}
+use mathlib.Core.List.{List}
+use Prim.Native.Nat.{ℕ, _-_, _≤_, _<_}
+use Rattle.algebra.specs.Sequence.{In}
+use Rattle.field.specs.Field.{q}
+use Rattle.code.specs.declared.Code.{Code}
+use Rattle.code.specs.Shape.{whole, mates}
+use Rattle.code.specs.Codeword.{encoded}
+use Rattle.code.specs.Laws.{Family, Plain}
+use Rattle.code.specs.Promise.{Accepted}
+use Rattle.families.specs.Family.{general, double, two-way, general-refusal, double-refusal, sizes-refusal}
+
+unfoldable pub General-are : Type 0
+General-are = (w : ℕ) (c : Code) → general-refusal w c ≡ 0 → Family (general w c)
+
+-- with whole groups they are plain in either wiring
+unfoldable pub Whole-are : Type 0
+Whole-are = (w : ℕ) (c : Code) → general-refusal w c ≡ 0 → whole (general w c) ≡ true → Plain (general w c)
+
+unfoldable pub Double-are : Type 0
+Double-are = (w : ℕ) (c : Code) → double-refusal w c ≡ 0 → Plain (double w c)
+
+unfoldable pub Two-way-are : Type 0
+Two-way-are = (f u v k : ℕ) → sizes-refusal f u v k ≡ 0 → Family (two-way f u v k)
+
+-- the codes of the paper are general ones, whose groups may be wired too: one proof for both wirings
+unfoldable pub Stay-accepted : Type 0
+Stay-accepted = (w : ℕ) (c : Code) → Accepted c → w ≤ 1 → general-refusal w c ≡ 0
+
+unfoldable pub Either-wiring : Type 0
+Either-wiring = (w : ℕ) (c : Code) → Accepted c → w ≤ 1 → Plain (general w c)
+
+-- both sizes give the same codewords
+unfoldable pub Ways-same : Type 0
+Ways-same =
+    (f u v k : ℕ) (xs : List ℕ) → sizes-refusal f u v k ≡ 0 → encoded (two-way f u v k) xs ≡ encoded (two-way f v u k) xs
+
+-- the mates of the one way and of the other have no slot in common
+unfoldable pub Ways-apart : Type 0
+Ways-apart =
+    (f u v k p m : ℕ) → sizes-refusal f u v k ≡ 0 → p < q f - 1 → In m (mates (two-way f u v k) p) → In m (mates (two-way f v u k) p) → ⊥
+
+-- the exchanged sizes are a family too
+unfoldable pub Way-back : Type 0
+Way-back = (f u v k : ℕ) → sizes-refusal f u v k ≡ 0 → Family (two-way f v u k)
+
+pub record Promises : Type 0 where
+  pub general-are : General-are
+  pub whole-are : Whole-are
+  pub double-are : Double-are
+  pub two-way-are : Two-way-are
+  pub stay-accepted : Stay-accepted
+  pub either-wiring : Either-wiring
+  pub ways-same : Ways-same
+  pub ways-apart : Ways-apart
+  pub way-back : Way-back
