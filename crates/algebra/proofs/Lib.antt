@@ -21,3 +21,4 @@ pub mod Shortened
 pub mod Strands
 pub mod Folding
 pub mod Scattered
+pub mod Splicing

@@ -2,3 +2,4 @@ pub mod Encoding
 pub mod Losing
 pub mod Sending
 pub mod Promises
+pub mod Returning

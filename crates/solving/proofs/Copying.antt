@@ -2,7 +2,7 @@
 --   copied, front, room      the front of a buffer filled with a list's entries is the list, and the buffer is as long
 --   Kept-same                two words have the same kept symbols
 --   loaded-size, loaded      the front of a row that was loaded has n entries, and the word's kept symbols
---   kept-loaded, verdict-loaded    what asks for the kept symbols only is the same of both words
+--   received-loaded, verdict-loaded    what asks for the kept symbols only is the same of both words
 use mathlib.Core.Path.{_≡_, refl, sym, ap, _∙_}
 use mathlib.Core.Logic.{_≢_}
 use mathlib.Core.Bool.{true, _||_}
@@ -19,13 +19,14 @@ use Rattle.algebra.proofs.Counting.{or-left, or-right}
 use Rattle.algebra.proofs.Filling.{Filled}
 use Rattle.algebra.proofs.Sequence.{so, yes-true, every-intro, tabulate-is}
 use Rattle.field.specs.Field.{q}
-use Rattle.code.specs.Decoding.{fits}
-use Rattle.code.specs.Erasure.{lost, kept-below}
-use Rattle.code.specs.declared.Code.{Code}
+use Rattle.code.specs.Decoding.{lost, fits}
+use Rattle.code.specs.Erasure.{kept-below}
+use Rattle.code.specs.declared.Shape.{Shape}
 use Rattle.interpolation.specs.Newton.{Written, symbol}
 use Rattle.interpolation.proofs.Rows.{symbol-kept}
 use Rattle.code.specs.Verdict.{Verdict}
-use Rattle.elimination.proofs.Equations.{kept-symbol, Fit, fits-to, fits-of}
+use Rattle.elimination.specs.Task.{Received}
+use Rattle.elimination.proofs.Equations.{kept-symbol, fits-to, fits-of}
 use Rattle.code.proofs.Verdicts.{verdict-same}
 
 -- the marks
@@ -51,23 +52,25 @@ loaded-size g n a z W h = length-take-le n z (omega (arith, W .size))
 pub loaded : (n : ℕ) (ws ms a z : List ℕ) → Written (λ p. symbol (at ws p) (at ms p)) 0 n a z → Kept-same n ws (take n z) ms
 loaded n ws ms a z W p h k = getD-take n z p 0 h ∙ W .put p (omega arith) h ∙ symbol-kept (at ws p) (at ms p) k
 
-fit-same : (c : Code) (ws vs ms ys : List ℕ) → Kept-same (c .n) ws vs ms → Fit c ws ms ys → Fit c vs ms ys
-fit-same c ws vs ms ys s F = record { vector = F .vector; agree = λ p h k. F .agree p h k ∙ sym (s p h k) }
+fits-same : (s : Shape) (ws vs ms ys : List ℕ) → Kept-same (s .n) ws vs ms → fits s ws ms ys ≡ true → fits s vs ms ys ≡ true
+fits-same s ws vs ms ys e f =
+    let F = fits-to s ws ms ys f in
+    fits-of s vs ms ys (record { vector = F .vector; agree = λ p h k. F .agree p h k ∙ sym (e p h k) })
 
-fits-same : (c : Code) (ws vs ms ys : List ℕ) → Kept-same (c .n) ws vs ms → fits c ws ms ys ≡ true → fits c vs ms ys ≡ true
-fits-same c ws vs ms ys s f = fits-of c vs ms ys (fit-same c ws vs ms ys s (fits-to c ws ms ys f))
-
-module _ (c : Code) (ws vs ms : List ℕ) (s : Kept-same (c .n) ws vs ms) where
-  pub kept-loaded : kept-below c ws ms ≡ true → kept-below c vs ms ≡ true
+module _ (s : Shape) (ws vs ms : List ℕ) (e : Kept-same (s .n) ws vs ms) where
+  kept-loaded : kept-below s ws ms ≡ true → kept-below s vs ms ≡ true
   unfolding kept-below lost
   kept-loaded k =
-      yes-true (kept-below c vs ms) (every-intro (λ p. lost ms p || ltb (at vs p) (q (c .field))) (c .n) (λ p h. go p h (ℕ-discrete (at ms p) 1)))
+      yes-true (kept-below s vs ms) (every-intro (λ p. lost ms p || ltb (at vs p) (q (s .field))) (s .n) (λ p h. go p h (ℕ-discrete (at ms p) 1)))
     where
-      go : (p : ℕ) → p < c .n → Dec (at ms p ≡ 1) → T (eqb (at ms p) 1 || ltb (at vs p) (q (c .field)))
-      go p h (yes e) = or-left (eqb (at ms p) 1) (ltb (at vs p) (q (c .field))) (so (eq-eqb (at ms p) 1 e))
+      go : (p : ℕ) → p < s .n → Dec (at ms p ≡ 1) → T (eqb (at ms p) 1 || ltb (at vs p) (q (s .field)))
+      go p h (yes d) = or-left (eqb (at ms p) 1) (ltb (at vs p) (q (s .field))) (so (eq-eqb (at ms p) 1 d))
       go p h (no n) =
-          or-right (eqb (at ms p) 1) (ltb (at vs p) (q (c .field))) (lt→ltb (at vs p) (q (c .field)) (rw (s p h n) (kept-symbol c ws ms k p h n)))
+          or-right (eqb (at ms p) 1) (ltb (at vs p) (q (s .field))) (lt→ltb (at vs p) (q (s .field)) (rw (e p h n) (kept-symbol s ws ms k p h n)))
 
-  pub verdict-loaded : (a z : List ℕ) (x : ℕ) → Verdict c vs ms a z x → Verdict c ws ms a z x
+  pub received-loaded : length vs ≡ s .n → Received s ws ms → Received s vs ms
+  received-loaded l R = record { word = l; marks = R .marks; kept = kept-loaded (R .kept) }
+
+  pub verdict-loaded : (a z : List ℕ) (x : ℕ) → Verdict s vs ms a z x → Verdict s ws ms a z x
   verdict-loaded a z x =
-      verdict-same c ws ms vs ms a z x (λ ys. fits-same c ws vs ms ys s) (λ ys. fits-same c vs ws ms ys (λ p h k. sym (s p h k)))
+      verdict-same s ws ms vs ms a z x (λ ys. fits-same s ws vs ms ys e) (λ ys. fits-same s vs ws ms ys (λ p h k. sym (e p h k)))

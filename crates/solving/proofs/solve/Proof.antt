@@ -10,10 +10,10 @@ log-table-requires : tie.Need-log-table-requires
 log-table-requires c κs = search needs
 
 count-lost-requires : tie.Need-count-lost-requires
-count-lost-requires c κs = search needs
+count-lost-requires c κs = let s = c .before .before .before .before .before .before in (s .pre .0 .plain .family .placed, s .pre .1 .received .marks)
 
 guarantee-of-requires : tie.Need-guarantee-of-requires
-guarantee-of-requires c κs = search needs
+guarantee-of-requires c κs = let L = c .before .before .before .before .before .before .before .pre .0 .plain in (L .family, L .second-none)
 
 solve-broken-requires : tie.Need-solve-broken-requires
 solve-broken-requires c κs = search needs
@@ -34,10 +34,8 @@ solve-within-requires : tie.Need-solve-within-requires
 solve-within-requires c κs =
     let s = c .before .before .before .before .before .before .before .before .before .before .before .before .before .before .before .before in (
       s .pre .0,
-      s .pre .1,
-      s .pre .2,
-      s .pre .3,
-      s .pre .4,
+      s .pre .1 .received,
+      s .pre .1 .message,
       omega (arith, c .before .before .before .before .before .before .before .if1 .left, c .before .before .before .before .before .before .before .before .guarantee-of .ensures, c .before .before .before .before .before .before .before .before .before .count-lost .ensures),
       c .before .before .before .before .before .before .before .before .before .before .before .power-table .ensures,
       c .before .before .before .before .before .before .before .before .before .before .log-table .ensures,

@@ -1,6 +1,0 @@
-pub mod Splicing
-pub mod Parts
-pub mod Reading
-pub mod Mending
-pub mod Refusals
-pub mod Promises

@@ -1,3 +1,0 @@
-pub mod View
-pub mod Pass
-pub mod Promise

@@ -1,0 +1,5 @@
+pub mod Members
+pub mod Reading
+pub mod Mending
+pub mod Refusals
+pub mod Promises

@@ -1,0 +1,79 @@
+-- All statements of specs/Promise.antt are proved. Assumes nothing.
+--   promises    each of them
+use mathlib.Core.Path.{_≡_, refl, sym, ap, _∙_}
+use mathlib.Core.Bool.{Bool, true, false, cond, not, _&&_, _||_}
+use mathlib.Core.List.{List}
+use Prim.Native.Nat.{ℕ, _<_}
+use native.Mathlib.Omega.{arith}
+use lib.Dec.{T, eqb, ltb, lt→ltb}
+use lib.ListN.{length}
+use borrow.Author.Tests.{eq-eqb}
+use Rattle.algebra.specs.Sequence.{at, every}
+use Rattle.algebra.proofs.Sequence.{yes-true, every-intro, all-below-at, count-same}
+use Rattle.field.specs.Field.{q}
+use Rattle.code.specs.Answer.{Answers}
+use Rattle.code.specs.Shape.{groups}
+use Rattle.code.specs.Codeword.{encoded}
+use Rattle.code.specs.Erasure.{group-losses}
+use Rattle.code.specs.Repair.{symbols-of}
+use Rattle.code.specs.Pass.{mendable, mend, passed, marks-after, mended}
+use Rattle.code.specs.Promise.{Pass-mends}
+use Rattle.code.proofs.Questions.{ask-yes, or-ask-on}
+use Rattle.code.proofs.Answers.{answers-in}
+use Rattle.code.proofs.Codewords.{length-encoded, encoded-below}
+use Rattle.code.proofs.Passing.{pass-mends}
+use Rattle.code.proofs.Lone.{mendable-one, mends-one, kept-mates}
+use Rattle.pass.specs.Pass.{reads, reads-below, pass-refusal}
+use Rattle.pass.specs.Promise.{Pass-counts, Pass-restores, Pass-keeps, Pass-accepts, Promises}
+use Rattle.pass.proofs.Reading.{readable}
+use Rattle.pass.proofs.Mending.{at-passed, at-marks}
+
+pub pass-counts : Pass-counts
+unfolding Pass-counts Answers mended
+pass-counts n s ws ms x ws′ ms′ M says z =
+    answers-in (pass-refusal n s ws ms) (mended s ms) x (sym (says .answer .0) ∙ z) (says .answer) .1
+    ∙ count-same (mendable s ms) (λ j. eqb (group-losses s j ms) 1) (groups s) (λ j h. mendable-one s (M .one) ms j)
+
+pub pass-restores : Pass-restores
+unfolding Pass-restores Pass-mends Answers
+pass-restores n s xs ws ms x ws′ ms′ p F M m h says z t y =
+    let r = eq-eqb (pass-refusal n s ws ms) 0 (sym (says .answer .0) ∙ z) in
+    let w = says .word ∙ ap (λ b. cond b (passed s ws ms) ws) r in
+    let v = says .marks ∙ ap (λ b. cond b (marks-after s ms) ms) r in
+    let o = mends-one s (M .one) ms p t in
+    let k = kept-mates s M p h ms (o .0) (o .1) in (
+      ap (λ l. at l p) w ∙ pass-mends s xs ws ms p F m h t (ap (symbols-of ws) k ∙ y ∙ sym (ap (symbols-of (encoded s xs)) k)),
+      ap (λ l. at l p) v ∙ at-marks s ws ms p h ∙ ap (λ b. cond b 0 (at ms p)) t,
+    )
+
+pub pass-keeps : Pass-keeps
+unfolding Pass-keeps
+pass-keeps n s ws ms x ws′ ms′ p h says t =
+    let w = at-passed s ws ms p h ∙ ap (λ b. cond b (mend s ws ms p) (at ws p)) t in
+    let v = at-marks s ws ms p h ∙ ap (λ b. cond b 0 (at ms p)) t in (
+      ap (λ l. at l p) (says .word) ∙ either (eqb (pass-refusal n s ws ms) 0) (passed s ws ms) ws w,
+      ap (λ l. at l p) (says .marks) ∙ either (eqb (pass-refusal n s ws ms) 0) (marks-after s ms) ms v,
+    )
+  where
+    either : (b : Bool) (a z : List ℕ) → at a p ≡ at z p → at (cond b a z) p ≡ at z p
+    either true a z e = e
+    either false a z e = refl
+
+-- question 6
+pub pass-accepts : Pass-accepts
+unfolding Pass-accepts Answers pass-refusal reads-below
+pass-accepts s xs ws ms x ws′ ms′ w m t agree says =
+    let fit : eqb (length ws) (s .n) && eqb (length ms) (s .n) ≡ true = rw (eq-eqb (length ws) (s .n) w, eq-eqb (length ms) (s .n) m) refl in
+    let below = yes-true (every (readable s ws ms) (s .n)) (every-intro (readable s ws ms) (s .n) (λ p h. either (reads s ms p) (ltb (at ws p) (q (s .field))) (symbol p h))) in
+    says .answer .0 ∙ sym (or-ask-on 0 _ 0 refl (ask-yes 5 fit (ask-yes 8 t (ask-yes 6 below refl))))
+  where
+    symbol : (p : ℕ) → p < s .n → reads s ms p ≡ true → T (ltb (at ws p) (q (s .field)))
+    symbol p h r =
+        lt→ltb (at ws p) (q (s .field)) (rw (agree p h r) (all-below-at (q (s .field)) (encoded s xs) (encoded-below s xs) p (omega (arith, length-encoded s xs))))
+
+    either : (a b : Bool) → (a ≡ true → T b) → T (not a || b)
+    either true b f = f refl
+    either false b f = tt
+
+pub promises : Promises
+promises = record { pass-counts = pass-counts; pass-restores = pass-restores; pass-keeps = pass-keeps; pass-accepts = pass-accepts }

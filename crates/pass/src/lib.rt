@@ -1,0 +1,190 @@
+// The local pass: groups that have lost one slot mend themselves.
+ghost use mathlib.Core.Path.{_≡_};
+ghost use mathlib.Core.Bool.{false};
+ghost use Prim.Native.Nat.{_<_};
+ghost use lib.ListN.{length};
+ghost use Rattle.algebra.specs.Sequence.{at, count};
+ghost use Rattle.field.specs.Table.{Powers, Logs};
+ghost use Rattle.code.specs.Shape.{size, groups, wired};
+ghost use Rattle.code.specs.Family.{single, code-refusal};
+ghost use Rattle.code.specs.Decoding.{lost};
+ghost use Rattle.code.specs.Pass.{passed, marks-after, mended};
+ghost use Rattle.code.specs.Laws.{Mending};
+ghost use Rattle.repair.specs.Weights.{sixteen};
+ghost use Rattle.pass.specs.Pass.{reads-below, pass-refusal, Pass-says};
+ghost use Rattle.pass.specs.Step.{part-below, part-mates, Group-mended};
+use code::Answer;
+use code::Code;
+use code::Shape;
+
+// The place of the only mark that is 1.
+fn lost_member(marks: &[u8]) -> usize
+    requires { ⌜ count (lost (now marks)) (length (now marks)) ≡ 1 ⌝ }
+    ensures { λ x. ⌜ (x < length (now (marks .entry))) × (at (now (marks .entry)) x ≡ 1) ⌝ }
+{
+    let mut i: usize = 0;
+    while i < marks.len() {
+        if marks[i] == 1 {
+            return i;
+        }
+        i += 1;
+    }
+    i
+}
+
+// Whether the kept symbols of a group's part are below q, if the group has exactly one loss.
+fn group_below(shape: Shape, part: &[u8], marks: &[u8]) -> bool
+    requires { ⌜ (length (now part) ≡ size shape) × (length (now marks) ≡ size shape) ⌝ }
+    ensures { λ x. ⌜ x ≡ part-below shape (now (part .entry)) (now (marks .entry)) ⌝ }
+{
+    if questions::losses_in(marks) != 1 {
+        return true;
+    }
+    questions::symbols_below(part, marks, field::order(shape.field))
+}
+
+// Whether every symbol that the pass reads is below q.
+fn pass_below(shape: Shape, word: &[u8], marks: &[u8]) -> bool
+    requires { ⌜ Mending shape × (wired shape ≡ false) × (length (now word) ≡ shape .n) × (length (now marks) ≡ shape .n) ⌝ }
+    ensures { λ x. ⌜ x ≡ reads-below shape (now (word .entry)) (now (marks .entry)) ⌝ }
+{
+    let size = layout::size_of(shape) as usize;
+    let groups = layout::groups_of(shape);
+    let mut j: u32 = 0;
+    while j < groups {
+        let start = layout::first_of(shape, j) as usize;
+        let end = start + size;
+        if !group_below(shape, &word[start..end], &marks[start..end]) {
+            return false;
+        }
+        j += 1;
+    }
+    true
+}
+
+// The refusal of the local pass, or 0.
+fn pass_refusal(refusal: u32, shape: Shape, word: &[u8], marks: &[u8]) -> u32
+    requires { ⌜ (refusal ≡ 0 → Mending shape × (wired shape ≡ false)) ⌝ }
+    ensures { λ x. ⌜ x ≡ pass-refusal refusal shape (now (word .entry)) (now (marks .entry)) ⌝ }
+{
+    let a = questions::ask(refusal, word.len() == shape.n as usize, 5);
+    let b = questions::ask(a, marks.len() == shape.n as usize, 5);
+    if b != 0 {
+        return b;
+    }
+    let c = questions::ask(b, questions::all_below(marks, 2), 8);
+    questions::ask(c, pass_below(shape, word, marks), 6)
+}
+
+// The symbols of a group's part at the mates of a member, with zeros after them.
+pub fn mates_of(shape: Shape, part: &[u8], member: u32) -> [u8; 16]
+    requires { ⌜ Mending shape × (member < size shape) × (length (now part) ≡ size shape) ⌝ }
+    ensures { λ x. ⌜ x ≡ sixteen (part-mates shape member (now (part .entry))) ⌝ }
+{
+    let r = shape.r;
+    let mut symbols = [0u8; 16];
+    let mut i: u32 = 0;
+    while i < r {
+        let mate = layout::mate_member(member, i);
+        symbols[i as usize] = part[mate as usize];
+        i += 1;
+    }
+    symbols
+}
+
+// Repairs the lost symbol of a group with exactly one loss: 1 where there was one.
+fn mend_group(
+    shape: Shape,
+    group: u32,
+    part: &mut [u8],
+    marks: &mut [u8],
+    powers: &[u8; 255],
+    logs: &[u8; 256],
+) -> u32
+    requires { ⌜ Powers 1 (now powers) × Logs (now logs) × Mending shape × (group < groups shape) × (length (now part) ≡ size shape) × (length (now marks) ≡ size shape) ⌝ }
+    ensures { λ x. ⌜ Group-mended shape group (now (part .entry)) (now (marks .entry)) x (now (part .exit)) (now (marks .exit)) ⌝ }
+{
+    if questions::losses_in(marks) != 1 {
+        return 0;
+    }
+    let i = lost_member(marks);
+    let member = i as u32;
+    let slot = layout::slot_at(shape, group, member);
+    let weights = repair::weights_of(shape, slot, powers, logs);
+    let mates = mates_of(shape, part, member);
+    part[i] = field::dot(
+        shape.field,
+        &weights,
+        &mates,
+        shape.r as usize,
+        powers,
+        logs,
+    );
+    marks[i] = 0;
+    1
+}
+
+// Lends each group's part of the word and the marks to the repair of one group, and counts the groups repaired.
+pub fn mend_groups(
+    shape: Shape,
+    word: &mut [u8],
+    marks: &mut [u8],
+    powers: &[u8; 255],
+    logs: &[u8; 256],
+) -> u32
+    requires { ⌜ Powers 1 (now powers) × Logs (now logs) × Mending shape × (wired shape ≡ false) × (length (now word) ≡ shape .n) × (length (now marks) ≡ shape .n) ⌝ }
+    ensures { λ x. ⌜ (now (word .exit) ≡ passed shape (now (word .entry)) (now (marks .entry))) × (now (marks .exit) ≡ marks-after shape (now (marks .entry))) × (x ≡ mended shape (now (marks .entry))) ⌝ }
+{
+    let size = layout::size_of(shape) as usize;
+    let all = layout::groups_of(shape);
+    let mut number: u32 = 0;
+    let mut j: u32 = 0;
+    while j < all {
+        let start = layout::first_of(shape, j) as usize;
+        let end = start + size;
+        let one = mend_group(
+            shape,
+            j,
+            &mut word[start..end],
+            &mut marks[start..end],
+            powers,
+            logs,
+        );
+        number += one;
+        j += 1;
+    }
+    number
+}
+
+// The local pass over any shape whose groups stand one after the other.
+pub fn local_pass_with(refusal: u32, shape: Shape, word: &mut [u8], marks: &mut [u8]) -> Answer
+    requires { ⌜ (refusal ≡ 0 → Mending shape × (wired shape ≡ false)) ⌝ }
+    ensures { λ x. ⌜ Pass-says refusal shape (now (word .entry)) (now (marks .entry)) x (now (word .exit)) (now (marks .exit)) ⌝ }
+{
+    let refused = pass_refusal(refusal, shape, word, marks);
+    if refused != 0 {
+        return Answer {
+            refusal: refused,
+            value: 0,
+        };
+    }
+    let powers = field::power_table();
+    let logs = field::log_table();
+    let number = mend_groups(shape, word, marks, &powers, &logs);
+    Answer {
+        refusal: 0,
+        value: number,
+    }
+}
+
+// Repairs each group with exactly one loss in its own stretch of the word, and unmarks it.
+pub fn local_pass(code: Code, word: &mut [u8], marks: &mut [u8]) -> Answer
+    ensures { λ x. ⌜ Pass-says (code-refusal code) (single code) (now (word .entry)) (now (marks .entry)) x (now (word .exit)) (now (marks .exit)) ⌝ }
+{
+    local_pass_with(
+        layout::code_refusal(code),
+        layout::single(code),
+        word,
+        marks,
+    )
+}

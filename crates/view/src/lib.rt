@@ -1,0 +1,46 @@
+// The group view: the part of a word that is a slot's repair group.
+ghost use mathlib.Core.Path.{_≡_};
+ghost use mathlib.Core.Bool.{false};
+ghost use Rattle.code.specs.Shape.{wired};
+ghost use Rattle.code.specs.Family.{single, code-refusal};
+ghost use Rattle.code.specs.Laws.{Mending};
+ghost use Rattle.view.specs.View.{view-refusal, View-says};
+use code::Code;
+use code::Shape;
+
+// The refusal of the group view over any shape.
+pub fn group_view_refusal_with(refusal: u32, shape: Shape, slot: u32, word: &[u8]) -> u32
+    ensures { λ x. ⌜ x ≡ view-refusal refusal shape slot (now (word .entry)) ⌝ }
+{
+    let a = questions::ask(refusal, word.len() == shape.n as usize, 5);
+    questions::ask(a, slot < shape.n, 7)
+}
+
+// The group view over any shape whose groups stand one after the other.
+pub fn group_view_with(refusal: u32, shape: Shape, slot: u32, word: &[u8]) -> &[u8]
+    requires { ⌜ (refusal ≡ 0 → Mending shape × (wired shape ≡ false)) ⌝ }
+    ensures { λ x. ⌜ View-says refusal shape slot (word .entry) x ⌝ }
+{
+    let refused = group_view_refusal_with(refusal, shape, slot, word);
+    if refused != 0 {
+        return &word[..0];
+    }
+    let group = layout::group_of(shape, slot);
+    let start = layout::first_of(shape, group) as usize;
+    let end = start + layout::size_of(shape) as usize;
+    &word[start..end]
+}
+
+// The refusal of the group view on the same inputs, or 0.
+pub fn group_view_refusal(code: Code, slot: u32, word: &[u8]) -> u32
+    ensures { λ x. ⌜ x ≡ view-refusal (code-refusal code) (single code) slot (now (word .entry)) ⌝ }
+{
+    group_view_refusal_with(layout::code_refusal(code), layout::single(code), slot, word)
+}
+
+// The part of the word that is the slot's whole group, or the empty part at the word's start.
+pub fn group_view(code: Code, slot: u32, word: &[u8]) -> &[u8]
+    ensures { λ x. ⌜ View-says (code-refusal code) (single code) slot (word .entry) x ⌝ }
+{
+    group_view_with(layout::code_refusal(code), layout::single(code), slot, word)
+}
