@@ -3,3 +3,4 @@ pub mod Losing
 pub mod Sending
 pub mod Promises
 pub mod Returning
+pub mod Gathering

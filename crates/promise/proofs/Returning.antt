@@ -1,4 +1,5 @@
 -- What comes back of a message that was encoded and then lost in part. Assumes nothing.
+--   sound                                 what holds where encoding and losing does not refuse
 --   comes-refused, comes-decoded          encode, lose and decode
 --   restored-refused, restored-given      encode, lose and repair
 use mathlib.Core.Path.{_≡_, refl, sym, ap, subst, _∙_}
@@ -18,10 +19,11 @@ use Rattle.code.specs.Shape.{mates}
 use Rattle.code.specs.Codeword.{encoded}
 use Rattle.code.specs.Decoding.{agrees}
 use Rattle.code.specs.Repair.{symbols-of}
-use Rattle.code.proofs.Questions.{ask-yes, or-ask-on}
+use Rattle.code.proofs.Questions.{ask-yes, or-ask-on, or-ask-passed}
 use Rattle.code.proofs.Accepted.{plain-of, mending-of}
 use Rattle.code.proofs.Codewords.{length-encoded}
 use Rattle.code.proofs.Mates.{mates-below}
+use Rattle.encode.specs.Encode.{encode-refusal}
 use Rattle.repair.specs.Mates.{Repair-says}
 use Rattle.repair.specs.Promise.{Repair-restores}
 use Rattle.repair.proofs.Promises.{repair-restores}
@@ -48,6 +50,13 @@ module _ (c : Code) (ms ks os : List ℕ) where
     word-is x L e =
         L .sent .word
         ∙ ap (λ t. cond t (after-loss (encoded (single c) ms) ks os) ws) (eq-eqb (send-refusal c ms ks os (length cs) (length ws)) 0 (sym (L .answer) ∙ e))
+
+    -- with no refusal the code is accepted, and the word has its length
+    pub sound : (x : ℕ) → Left c ms ks os x cs cs′ ws ws′ → x ≡ 0 → (code-refusal c ≡ 0) × (length ws′ ≡ c .n)
+    unfolding send-refusal encode-refusal
+    sound x L e =
+        let o = or-ask-passed (encode-refusal (code-refusal c) (single c) ms (length cs)) _ (sym (L .answer) ∙ e) in
+        (or-ask-passed (code-refusal c) _ (o .0) .0, ap length (word-is x L e) ∙ length-loss (encoded (single c) ms) ks os ∙ length-encoded (single c) ms)
 
     pub comes-refused : (x : ℕ) (b w : List ℕ) → Left c ms ks os x cs cs′ ws ws′ → x ≢ 0 → Comes-back c ms ks os x cs cs′ ws ws′ b b w w
     unfolding Decodes-as

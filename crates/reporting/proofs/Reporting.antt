@@ -8,13 +8,15 @@
 use mathlib.Core.Path.{_≡_, sym, ap, ap₂, _∙_, subst}
 use mathlib.Core.Logic.{_≢_}
 use mathlib.Core.List.{List, _++_}
-use Prim.Native.Nat.{ℕ, _+_, _≤_, _<_}
+use Prim.Native.Nat.{ℕ, _+_, _*_, _≤_, _<_}
 use native.Mathlib.Nat.{zero-add}
 use native.Mathlib.Omega.{arith}
 use lib.ListN.{length, take, drop}
 use Rattle.algebra.proofs.Sequence.{yes-true}
 use Rattle.code.specs.declared.Code.{Code}
+use Rattle.code.specs.declared.Shape.{Shape}
 use Rattle.code.specs.Family.{single, code-refusal}
+use Rattle.code.specs.Laws.{Plain}
 use Rattle.code.specs.declared.Answer.{Answer}
 use Rattle.code.proofs.Questions.{or-ask-passed}
 use Rattle.code.proofs.Accepted.{plain-of}
@@ -77,12 +79,15 @@ module _ (c : Code) (ms : List ℕ) (r : StripeRecord) (n : Numbers c (single c)
   unfolding stripe-report
   record-lines v w xs e = cc (n .lost, n .guarantee-is, n .grade-is, n .first)
 
+-- so much work is enough for every plain shape
+enough : (s : Shape) → Plain s → (b : ℕ) → 61455 ≤ b → s .n * (s .k + 1) ≤ b
+enough s L b h = omega (arith, work-most s L)
+
 pub decodes : (s : List ℕ) (a b : ℕ) → Good-sheet s → a ≡ code-in s .k → 61455 ≤ b → refusal-of (code-in s) (symbols-in s) (marks-in s) a b ≡ 0
-decodes s a b g e h =
+decodes s a b g e m =
     let t = stripe-again s g in
     let h = single (code-in s) in
-    let w = work-most h (plain-of (code-in s) (t .code)) in
-    none (code-refusal (code-in s)) h (symbols-in s) (marks-in s) a b (t .code) (t .word) (t .marks) e (omega arith) (yes-true _ (t .marked)) (yes-true _ (t .kept))
+    none (code-refusal (code-in s)) h (symbols-in s) (marks-in s) a b (t .code) (t .word) (t .marks) e (enough h (plain-of (code-in s) (t .code)) b m) (yes-true _ (t .marked)) (yes-true _ (t .kept))
 
 module _ (s t z : List ℕ) (x : ℕ) where
   pub says-refused : (m : ℕ) → m ≡ sheet-refusal s → m ≢ 0 → Puts (refused-line m) t 0 z x → x ≤ 1032 → Text-says s t z x

@@ -1,4 +1,3 @@
--- `report_front` meets its contract. Assumes nothing.
 use mathlib.Core.Path.{sym}
 use native.Mathlib.Omega.{arith}
 use lib.Seq.{take-all, length-take-le}
@@ -9,14 +8,11 @@ use Rattle.binding.proofs.report_front.Tie as tie
 report-requires : tie.Need-report-requires
 report-requires c κs = search needs
 
-packed-requires : tie.Need-packed-requires
-packed-requires c κs = search needs
-
 same-length : tie.Need-same-length
 same-length c = search needs
 
 returns : tie.Need-returns
-returns c = rw (c .packed .ensures, take-all 1032 (c .before .before .before .before .before .before .before .before .args .input .now) (c .before .before .before .before .before .if1 .taken)) (c .before .before .before .report .ensures)
+returns c = rw (take-all 1032 (c .before .before .before .before .before .before .before .args .input .now) (c .before .before .before .before .if1 .taken)) (c .before .before .report .ensures)
 
 slice-aggregate-report : tie.Need-slice-aggregate-report
 slice-aggregate-report c = sym (length-take-le _ (c .before .before .before .before .args .input .now) (omega arith))
@@ -24,25 +20,20 @@ slice-aggregate-report c = sym (length-take-le _ (c .before .before .before .bef
 report-requires-2 : tie.Need-report-requires-2
 report-requires-2 c κs = search needs
 
-packed-requires-2 : tie.Need-packed-requires-2
-packed-requires-2 c κs = search needs
-
 same-length-2 : tie.Need-same-length-2
 same-length-2 c = search needs
 
 returns-2 : tie.Need-returns-2
-returns-2 c = rw (c .packed2 .ensures) (c .before .before .before .report2 .ensures)
+returns-2 c = search needs
 
 pub report-front-spec : {M : Type 1} → statement M
 report-front-spec =
     tie.close
     (tie.spec
     report-requires
-    packed-requires
     same-length
     returns
     slice-aggregate-report
     report-requires-2
-    packed-requires-2
     same-length-2
     returns-2)

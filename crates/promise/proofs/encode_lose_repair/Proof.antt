@@ -1,14 +1,48 @@
 use borrow.Author.Needs.{needs}
-use mathlib.Core.Path.{_≡_, sym, ap, _∙_}
+use mathlib.Core.Path.{_≡_, refl, sym, ap, subst, _∙_}
+use Prim.Native.Nat.{ℕ, _≤_, _<_}
 use native.Mathlib.Omega.{arith}
-use lib.ListN.{length}
-use Rattle.promise.specs.RoundTrip.{Restored}
-use Rattle.promise.proofs.RoundTrip.{repaired-back}
+use lib.Dec.{ltb, ltb→lt}
+use lib.ListN.{length, take}
+use lib.Seq.{length-take-le}
+use Rattle.code.specs.Family.{single, code-refusal}
+use Rattle.code.specs.Shape.{mates}
+use Rattle.code.specs.Repair.{symbols-of}
+use Rattle.code.specs.Laws.{Placed, Mending}
+use Rattle.code.proofs.Accepted.{mending-of}
+use Rattle.code.proofs.Bounds.{r-most}
+use Rattle.code.proofs.Questions.{asked, or-ask-passed}
+use Rattle.repair.specs.Mates.{Repair-says}
+use Rattle.repair.proofs.Sixteen.{length-sixteen}
+use Rattle.promise.proofs.Returning.{sound, restored-refused, restored-given}
+use Rattle.promise.proofs.Gathering.{seen-size, gathered}
 use Rattle.promise.proofs.encode_lose_repair.Statement.{statement}
 use Rattle.promise.proofs.encode_lose_repair.Tie as tie
 
-encode-and-lose-requires : tie.Need-encode-and-lose-requires
-encode-and-lose-requires c κs = search needs
+-- what holds where no question refuses
+sent : (t : tie.Else1) → t .before .before .before .before .before .before .before .send .result ≡ 0
+sent t = or-ask-passed (t .before .before .before .before .before .before .before .send .result) _ (sym (t .before .ask .ensures) ∙ t .if1 .left) .0
+
+below : (t : tie.Else1) → let a = t .before .before .before .before .before .before .before .before .before .before .before .before .before .before .before .args in a .slot < a .code .n
+below t =
+    let a = t .before .before .before .before .before .before .before .before .before .before .before .before .before .before .before .args in
+    let o = or-ask-passed (t .before .before .before .before .before .before .before .send .result) _ (sym (t .before .ask .ensures) ∙ t .if1 .left) in
+    ltb→lt (a .slot) (a .code .n) (asked (ltb (a .slot) (a .code .n)) 6 0 (o .1) .0)
+
+good : (t : tie.Else1) → let a = t .before .before .before .before .before .before .before .before .before .before .before .before .before .before .before .args in (code-refusal (a .code) ≡ 0) × (length (t .before .before .before .before .before .before .before .send .last .1 .1 .1 .1 .1 .0) ≡ a .code .n)
+good t =
+    let a = t .before .before .before .before .before .before .before .before .before .before .before .before .before .before .before .args in
+    let s = t .before .before .before .before .before .before .before .send in
+    sound (a .code) (a .message .now) (a .marks .now) (a .other .now) (a .codeword .now) (s .last .1 .1 .1 .1 .0) (a .word .now) (s .last .1 .1 .1 .1 .1 .0) (s .result) (s .ensures) (sent t)
+
+r-few : (t : tie.Else1) → t .before .before .before .before .before .before .before .before .before .before .before .before .before .before .before .args .code .r ≤ 16
+r-few t = let a = t .before .before .before .before .before .before .before .before .before .before .before .before .before .before .before .args in r-most (single (a .code)) (mending-of (a .code) (good t .0) .placed)
+
+send-requires : tie.Need-send-requires
+send-requires c κs = search needs
+
+ask-requires : tie.Need-ask-requires
+ask-requires c κs = search needs
 
 same-length : tie.Need-same-length
 same-length c = search needs
@@ -17,8 +51,53 @@ same-length-2 : tie.Need-same-length-2
 same-length-2 c = search needs
 
 returns : tie.Need-returns
-unfolding Restored
-returns c = λ H h l k. absurd (c .if1 .taken (c .before .before .before .before .before .encode-and-lose .ensures .left H .0))
+returns c =
+    let a = c .before .before .before .before .before .before .before .before .before .before .before .before .before .before .before .args in
+    let s = c .before .before .before .before .before .before .before .send in
+    restored-refused (a .code) (a .message .now) (a .marks .now) (a .other .now) (a .codeword .now) (s .last .1 .1 .1 .1 .0) (a .word .now) (s .last .1 .1 .1 .1 .1 .0) (a .slot) (s .result)
+    (record { refusal = c .before .ask .result; value = 0 }) (s .ensures) (c .before .ask .ensures) (c .if1 .taken) refl
+
+single-requires : tie.Need-single-requires
+single-requires c κs = search needs
+
+group-view-requires : tie.Need-group-view-requires
+group-view-requires c κs = search needs
+
+member-of-requires : tie.Need-member-of-requires
+member-of-requires c κs =
+    let t = c .before .before .before in
+    let a = t .before .before .before .before .before .before .before .before .before .before .before .before .before .before .before .args in (
+      subst Placed (sym (c .before .before .single .ensures)) (mending-of (a .code) (good t .0) .placed),
+      rw (c .before .before .single .ensures) (below t),
+    )
+
+mates-of-requires : tie.Need-mates-of-requires
+mates-of-requires c κs =
+    let t = c .before .before .before .before in
+    let a = t .before .before .before .before .before .before .before .before .before .before .before .before .before .before .before .args in
+    let e = c .before .before .before .single .ensures in (
+      subst Mending (sym e) (mending-of (a .code) (good t .0)),
+      c .member-of .ensures .1,
+      rw e (seen-size (a .code) (good t .0) (a .slot) (below t) _ _ (good t .1) (c .before .group-view .ensures)),
+    )
+
+cast-r : tie.Need-cast-r
+cast-r c = search needs
+
+-- there are sixteen
+sixteen-all : (c : tie.After-mates-of) → length (c .mates-of .result) ≡ 16
+sixteen-all c = ap length (c .mates-of .ensures) ∙ length-sixteen _
+
+array-share-prefix-mates : tie.Need-array-share-prefix-mates
+array-share-prefix-mates c = omega (arith, sixteen-all (c .before), r-few (c .before .before .before .before .before .before))
+
+slice-aggregate-repair : tie.Need-slice-aggregate-repair
+slice-aggregate-repair c =
+    let t = c .before .before .before .before .before .before .before in
+    sym (length-take-le (t .before .before .before .before .before .before .before .before .before .before .before .before .before .before .before .args .code .r) (c .before .before .mates-of .result) (omega (arith, sixteen-all (c .before .before), r-few t)))
+
+repair-requires : tie.Need-repair-requires
+repair-requires c κs = search needs
 
 same-length-3 : tie.Need-same-length-3
 same-length-3 c = search needs
@@ -27,67 +106,36 @@ same-length-4 : tie.Need-same-length-4
 same-length-4 c = search needs
 
 returns-2 : tie.Need-returns-2
-unfolding Restored
-returns-2 c = λ H h l k. absurd (omega arith)
-
-cast-if3 : tie.Need-cast-if3
-cast-if3 c = search needs
-
-same-length-5 : tie.Need-same-length-5
-same-length-5 c = search needs
-
-same-length-6 : tie.Need-same-length-6
-same-length-6 c = search needs
-
-returns-3 : tie.Need-returns-3
-unfolding Restored
-returns-3 c = λ H h l k. absurd (c .if3 .taken l)
-
-mates-of-requires : tie.Need-mates-of-requires
-mates-of-requires c κs =
-    let E = c .before .before .before .before .before .before .before .before .before .before .before .encode-and-lose .ensures in
-    (E .accepted (c .before .before .before .before .before .before .if1 .left), c .before .before .before .before .if2 .left, E .size (c .before .before .before .before .before .before .if1 .left), c .before .before .if3 .left)
-
-repair-requires : tie.Need-repair-requires
-repair-requires c κs = search needs
-
-same-length-7 : tie.Need-same-length-7
-same-length-7 c = search needs
-
-same-length-8 : tie.Need-same-length-8
-same-length-8 c = search needs
-
-same-length-9 : tie.Need-same-length-9
-same-length-9 c = search needs
-
-returns-4 : tie.Need-returns-4
-unfolding Restored
-returns-4 c =
-    let A = c .before .before .before .before .before .before .before .before .before .before .before .before .before .before .before .before .before .before .before .before .before .before .before .before .before .args in
-    let E = c .before .before .before .before .before .before .before .before .before .before .before .before .before .before .before .before .encode-and-lose in
-    let M = c .before .before .before .before .mates-of in
-    λ H h l k.
-    repaired-back (A .code) (A .message .now) (A .marks .now) (A .other .now) (length (A .codeword .now)) (length (A .word .now)) (A .slot) (c .repair .result)
-    (E .last .1 .1 .1 .1 .0) (E .last .1 .1 .1 .1 .1 .0) (M .last .1 .1 .1 .0) H (E .ensures .left H .1) (E .ensures .left H .2) h k (M .ensures) (c .repair .ensures)
+returns-2 c =
+    let t = c .before .before .before .before .before .before .before .before in
+    let a = t .before .before .before .before .before .before .before .before .before .before .before .before .before .before .before .args in
+    let s = t .before .before .before .before .before .before .before .send in
+    let m = c .before .before .before .mates-of in
+    let o = c .before .before .before .before .member-of in
+    let e = c .before .before .before .before .before .before .before .single .ensures in
+    let k = gathered (a .code) (good t .0) (a .slot) (below t) _ (c .before .before .before .before .before .group-view .result) (good t .1) (c .before .before .before .before .before .group-view .ensures) (o .result) (m .result)
+    (rw e at (o .ensures .0)) (rw e at (m .ensures)) in
+    restored-given (a .code) (a .message .now) (a .marks .now) (a .other .now) (a .codeword .now) (s .last .1 .1 .1 .1 .0) (a .word .now) (s .last .1 .1 .1 .1 .1 .0) (a .slot) (s .result) (c .repair .result)
+    (s .ensures) (sym (t .before .ask .ensures) ∙ t .if1 .left) (sent t)
+    (subst (λ xs. Repair-says (code-refusal (a .code)) (single (a .code)) (a .slot) xs (c .repair .result)) k (c .repair .ensures))
 
 pub encode-lose-repair-spec : {M : Type 1} → statement M
 encode-lose-repair-spec =
     tie.close
     (tie.spec
-    encode-and-lose-requires
+    send-requires
+    ask-requires
     same-length
     same-length-2
     returns
+    single-requires
+    group-view-requires
+    member-of-requires
+    mates-of-requires
+    cast-r
+    array-share-prefix-mates
+    slice-aggregate-repair
+    repair-requires
     same-length-3
     same-length-4
-    returns-2
-    cast-if3
-    same-length-5
-    same-length-6
-    returns-3
-    mates-of-requires
-    repair-requires
-    same-length-7
-    same-length-8
-    same-length-9
-    returns-4)
+    returns-2)
