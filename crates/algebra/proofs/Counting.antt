@@ -1,31 +1,22 @@
--- How many numbers pass a test, and whether every does: one number more, none, a stretch more. Assumes nothing.
---   count-zero, count-yes, count-no    one number more, that passes the test or not
---   count-none             where none passes
---   count-add, count-mono  the numbers below a, and b more
---   count-and              a test joined to one that does not depend on the number
---   count-some, count-one  one that passes, and the only one
---   every-none, every-more, every-done    a test of each number, one number more, to the bound
---   every-same             two tests that agree
---   or-left, or-right      one of two tests holds
+-- How many numbers below a bound pass a test. Assumes nothing.
+--   count-zero, count-yes, count-no    no number; one number more, that passes the test or not
+--   count-none, count-all              where none passes, where all do
+--   count-most                         no more than there are numbers
+--   count-add, count-mono              the numbers below a, and b more
+--   count-same, count-split            two tests that agree; two of which one holds everywhere
+--   count-and                          a test joined to one that does not depend on the number
+--   count-some, count-one              one that passes, and the only one
 use mathlib.Core.Path.{_≡_, refl, sym, ap, ap₂, _∙_}
 use mathlib.Core.Logic.{_≢_}
 use mathlib.Core.Bool.{Bool, true, false, cond, _&&_, _||_}
-use Prim.Native.Nat.{ℕ, zero, suc, _+_, _-_, _≤_, _<_}
+use Prim.Native.Nat.{ℕ, zero, suc, _+_, _-_, _≤_, _<_, zero-le}
 use native.Mathlib.Nat.{add-zero, add-suc, le-refl, not-suc-le-zero}
 use native.Mathlib.Decide.{ℕ-discrete, decLt}
 use native.Mathlib.Numerals.{add-one}
 use native.Mathlib.Omega.{arith}
 use lib.Dec.{T}
-use Rattle.algebra.specs.Sequence.{count, every}
-use Rattle.algebra.proofs.Sequence.{yes-true, no-false, count-same}
-
-pub or-left : (a b : Bool) → T a → T (a || b)
-or-left true b t = tt
-or-left false b t = absurd t
-
-pub or-right : (a b : Bool) → T b → T (a || b)
-or-right true b t = tt
-or-right false b t = t
+use Rattle.algebra.specs.Sequence.{count}
+use Rattle.algebra.proofs.Booleans.{yes-true, no-false}
 
 module _ (t : ℕ → Bool) where
   pub count-zero : count t 0 ≡ 0
@@ -52,6 +43,37 @@ module _ (t : ℕ → Bool) where
 
   pub count-mono : (i n : ℕ) → i ≤ n → count t i ≤ count t n
   count-mono i n h = let e : i + (n - i) ≡ n = omega arith in omega (arith, ap (count t) e, count-add i (n - i))
+
+  pub count-most : (n : ℕ) → count t n ≤ n
+  unfolding count
+  count-most zero = zero-le
+  count-most (suc n) = go (t n) (count-most n)
+    where
+      go : (b : Bool) → count t n ≤ n → cond b 1 0 + count t n ≤ suc n
+      go true h = omega arith
+      go false h = omega arith
+
+pub count-same : (s t : ℕ → Bool) (n : ℕ) → ((i : ℕ) → i < n → s i ≡ t i) → count s n ≡ count t n
+unfolding count
+count-same s t zero h = refl
+count-same s t (suc n) h =
+    ap₂ (λ b m. cond b 1 0 + m) (h n (le-refl (suc n))) (count-same s t n (λ i b. h i (omega arith)))
+
+pub count-all : (n : ℕ) → count (λ i. true) n ≡ n
+unfolding count
+count-all zero = refl
+count-all (suc n) = let e = count-all n in omega arith
+
+-- two tests of which one holds wherever the other does not
+pub count-split : (s t : ℕ → Bool) (n : ℕ) → ((i : ℕ) → i < n → T (s i || t i)) → n ≤ count s n + count t n
+unfolding count
+count-split s t zero h = zero-le
+count-split s t (suc n) h = go (s n) (t n) (h n (le-refl (suc n))) (count-split s t n (λ i b. h i (omega arith)))
+  where
+    go : (a b : Bool) → T (a || b) → n ≤ count s n + count t n → suc n ≤ cond a 1 0 + count s n + (cond b 1 0 + count t n)
+    go true b o l = omega arith
+    go false true o l = omega arith
+    go false false o l = absurd o
 
 -- a test joined to one that does not depend on the number
 pub count-and : (t : ℕ → Bool) (s : Bool) (n : ℕ) → count (λ i. t i && s) n ≡ cond s (count t n) 0
@@ -88,21 +110,3 @@ count-one t n i k c h l e d = no-false (t k) (λ p. go p (decLt i k))
     go : T (t k) → Dec (i < k) → ⊥
     go p (yes b) = omega (arith, count-two t n i k b l e (yes-true (t k) p))
     go p (no b) = omega (arith, count-two t n k i (omega arith) h (yes-true (t k) p) e)
-
--- every number below a bound
-module _ (t : ℕ → Bool) where
-  pub every-none : every t 0 ≡ true
-  unfolding every
-  every-none = refl
-
-  pub every-more : (i : ℕ) → every t i ≡ true → t i ≡ true → every t (i + 1) ≡ true
-  unfolding every
-  every-more i e h = rw (add-one, h) e
-
-  pub every-done : (n i : ℕ) → i ≤ n → n ≤ i → every t i ≡ true → true ≡ every t n
-  every-done n i h g e = let s : i ≡ n = omega arith in sym (rw s at e)
-
-pub every-same : (s t : ℕ → Bool) (n : ℕ) → ((i : ℕ) → i < n → s i ≡ t i) → every s n ≡ every t n
-unfolding every
-every-same s t zero h = refl
-every-same s t (suc n) h = ap₂ (λ a b. a && b) (h n (le-refl (suc n))) (every-same s t n (λ i b. h i (omega arith)))

@@ -1,12 +1,11 @@
--- Linear equations: row operations keep the solutions, and a system in echelon form has one solution or two. Assumes nothing.
+-- Linear equations: row operations keep the solutions, and a system in echelon form has one solution, or two that differ. Assumes nothing.
 --   dot-cong, dot-nil, dot-front               sums of products
 --   dot-add, dot-swap
---   residue-cong, residue-const, residue-add   the value of an equation
+--   defect-cong, defect-const, defect-add      the value of an equation
 --   add-solves                                 a multiple of a solved equation changes no value
---   echelon-insert, insert-solves              a bare row takes an equation: still in echelon form, and it is solved
+--   steps-insert, insert-solves                a bare row takes an equation: still in echelon form, and it is solved
 --   solve-row, solve-free, fill                back substitution
---   solution, two, unique                      there is a solution; two with a bare row; just one with none
---   echelon-solutions, solutions               so one or two; and with one more equation that is reduced, none, one or two
+--   two, unique-solution                       two solutions with a bare row; just one with none
 --   turn                                       the factor that makes an equation start with -1
 use mathlib.Core.Path.{_≡_, refl, sym, ap, ap₂, _∙_}
 use mathlib.Core.Logic.{_≢_}
@@ -17,7 +16,7 @@ use native.Mathlib.Omega.{arith}
 use lib.Dec.{eqb}
 use borrow.Author.Tests.{eq-eqb, ne-eqb}
 use Rattle.algebra.specs.Ring.{Ring, Field}
-use Rattle.algebra.specs.Equations.{dot, residue, Solves, Echelon, Solutions, no-solution, one-solution, more-solutions}
+use Rattle.algebra.specs.Equations.{dot, defect, Solves, Steps}
 use Rattle.algebra.proofs.Ring.{nil-add, add-left-comm, add-mul, unit-mul, add-cancel, mul-nil, nil-mul, sub-is, sub-mul, add-interchange}
 
 module _ (R : Ring) where
@@ -92,38 +91,38 @@ module _ (R : Ring) where
 
   module _ (k : ℕ) where
     -- the value of an equation
-    pub residue-cong : (a b y : ℕ → El) → ((m : ℕ) → m ≤ k → a m ≡ b m) → residue R k a y ≡ residue R k b y
-    unfolding residue
-    residue-cong a b y h =
+    pub defect-cong : (a b y : ℕ → El) → ((m : ℕ) → m ≤ k → a m ≡ b m) → defect R k a y ≡ defect R k b y
+    unfolding defect
+    defect-cong a b y h =
         ap₂ _⊕_ (dot-cong k a b y y (λ m n. ap (λ x. x ⊗ y m) (h m (omega arith)))) (h k (omega arith))
 
-    pub residue-at : (a y z : ℕ → El) → ((m : ℕ) → m < k → y m ≡ z m) → residue R k a y ≡ residue R k a z
-    unfolding residue
-    residue-at a y z h = ap (λ n. n ⊕ a k) (dot-cong k a a y z (λ m n. ap (λ x. a m ⊗ x) (h m n)))
+    pub defect-at : (a y z : ℕ → El) → ((m : ℕ) → m < k → y m ≡ z m) → defect R k a y ≡ defect R k a z
+    unfolding defect
+    defect-at a y z h = ap (λ n. n ⊕ a k) (dot-cong k a a y z (λ m n. ap (λ x. a m ⊗ x) (h m n)))
 
     -- no unknown left
-    pub residue-const : (a y : ℕ → El) → ((m : ℕ) → m < k → a m ≡ 𝟘) → residue R k a y ≡ a k
-    unfolding residue
-    residue-const a y h = ap (λ n. n ⊕ a k) (dot-nil k a y h) ∙ nil-add R (a k)
+    pub defect-const : (a y : ℕ → El) → ((m : ℕ) → m < k → a m ≡ 𝟘) → defect R k a y ≡ a k
+    unfolding defect
+    defect-const a y h = ap (λ n. n ⊕ a k) (dot-nil k a y h) ∙ nil-add R (a k)
 
-    pub residue-add : (c : El) (a e b y : ℕ → El) → ((m : ℕ) → m ≤ k → b m ≡ a m ⊕ c ⊗ e m)
-        → residue R k b y ≡ residue R k a y ⊕ c ⊗ residue R k e y
-    unfolding residue
-    residue-add c a e b y h =
+    pub defect-add : (c : El) (a e b y : ℕ → El) → ((m : ℕ) → m ≤ k → b m ≡ a m ⊕ c ⊗ e m)
+        → defect R k b y ≡ defect R k a y ⊕ c ⊗ defect R k e y
+    unfolding defect
+    defect-add c a e b y h =
         ap₂ _⊕_ (dot-add k c a e b y (λ m n. h m (omega arith))) (h k (omega arith))
         ∙ add-interchange R (dot R k a y) (c ⊗ dot R k e y) (a k) (c ⊗ e k)
         ∙ ap (λ n. (dot R k a y ⊕ a k) ⊕ n) (sym (mul-add c (dot R k e y) (e k)))
 
     -- a multiple of a solved equation changes no value, so the solutions stay, both ways
-    pub add-solves : (c : El) (a e b y : ℕ → El) → ((m : ℕ) → m ≤ k → b m ≡ a m ⊕ c ⊗ e m) → residue R k e y ≡ 𝟘
-        → residue R k b y ≡ residue R k a y
+    pub add-solves : (c : El) (a e b y : ℕ → El) → ((m : ℕ) → m ≤ k → b m ≡ a m ⊕ c ⊗ e m) → defect R k e y ≡ 𝟘
+        → defect R k b y ≡ defect R k a y
     add-solves c a e b y h s =
-        residue-add c a e b y h ∙ ap (λ n. residue R k a y ⊕ c ⊗ n) s ∙ ap (λ n. residue R k a y ⊕ n) (mul-nil R c) ∙ add-nil (residue R k a y)
+        defect-add c a e b y h ∙ ap (λ n. defect R k a y ⊕ c ⊗ n) s ∙ ap (λ n. defect R k a y ⊕ n) (mul-nil R c) ∙ add-nil (defect R k a y)
 
-    residue-swap : (j : ℕ) (a y z : ℕ → El) → j < k → ((m : ℕ) → m < k → m ≢ j → a m ⊗ y m ≡ a m ⊗ z m)
-        → residue R k a y ⊕ a j ⊗ z j ≡ residue R k a z ⊕ a j ⊗ y j
-    unfolding residue
-    residue-swap j a y z hj h =
+    defect-swap : (j : ℕ) (a y z : ℕ → El) → j < k → ((m : ℕ) → m < k → m ≢ j → a m ⊗ y m ≡ a m ⊗ z m)
+        → defect R k a y ⊕ a j ⊗ z j ≡ defect R k a z ⊕ a j ⊗ y j
+    unfolding defect
+    defect-swap j a y z hj h =
         let A = dot R k a y in
         let B = dot R k a z in
         cc (
@@ -136,16 +135,16 @@ module _ (R : Ring) where
           add-assoc B (a j ⊗ y j) (a k),
         )
 
-    pub bare-solved : (U : ℕ → ℕ → El) → Echelon R k U → (i : ℕ) → i < k → U i i ≡ 𝟘 → (y : ℕ → El) → residue R k (U i) y ≡ 𝟘
+    pub bare-solved : (U : ℕ → ℕ → El) → Steps R k U → (i : ℕ) → i < k → U i i ≡ 𝟘 → (y : ℕ → El) → defect R k (U i) y ≡ 𝟘
     bare-solved U E i h e y =
-        residue-const (U i) y (λ m n. E .bare i m h e (omega arith)) ∙ E .bare i k h e (omega arith)
+        defect-const (U i) y (λ m n. E .bare i m h e (omega arith)) ∙ E .bare i k h e (omega arith)
 
     -- a bare row j that takes c times an equation e, where c makes e start with -1
-    module _ (U W : ℕ → ℕ → El) (E : Echelon R k U) (j : ℕ) (hj : j < k) (c : El) (e : ℕ → El)
+    module _ (U W : ℕ → ℕ → El) (E : Steps R k U) (j : ℕ) (hj : j < k) (c : El) (e : ℕ → El)
         (zeros : (m : ℕ) → m < j → e m ≡ 𝟘) (turned : c ⊗ e j ≡ 𝟘 ⊖ 𝟙)
         (others : (i m : ℕ) → i < k → i ≢ j → m ≤ k → W i m ≡ U i m) (put : (m : ℕ) → m ≤ k → W j m ≡ c ⊗ e m) where
-      pub echelon-insert : Echelon R k W
-      echelon-insert =
+      pub steps-insert : Steps R k W
+      steps-insert =
           record {
             low = λ i m p l. low i m p l (ℕ-discrete i j);
             head = λ i p n. head i p n (ℕ-discrete i j);
@@ -165,14 +164,14 @@ module _ (R : Ring) where
               minus-none (W i m) (ap (λ n. n ⊗ W i m) (sym turned ∙ sym (put j (omega arith)) ∙ (rw w at z)) ∙ nil-mul R (W i m))
           bare i m p z l (no w) = others i m p w l ∙ E .bare i m p (sym (others i i p w (omega arith)) ∙ z) l
 
-      pub insert-value : (y : ℕ → El) → residue R k (W j) y ≡ c ⊗ residue R k e y
+      pub insert-value : (y : ℕ → El) → defect R k (W j) y ≡ c ⊗ defect R k e y
       insert-value y =
-          residue-add c (λ _. 𝟘) e (W j) y (λ m l. put m l ∙ sym (nil-add R (c ⊗ e m)))
-          ∙ ap (λ n. n ⊕ c ⊗ residue R k e y) (residue-const (λ _. 𝟘) y (λ m n. refl)) ∙ nil-add R (c ⊗ residue R k e y)
+          defect-add c (λ _. 𝟘) e (W j) y (λ m l. put m l ∙ sym (nil-add R (c ⊗ e m)))
+          ∙ ap (λ n. n ⊕ c ⊗ defect R k e y) (defect-const (λ _. 𝟘) y (λ m n. refl)) ∙ nil-add R (c ⊗ defect R k e y)
 
-      pub insert-solves : (y : ℕ → El) → residue R k (W j) y ≡ 𝟘 → residue R k e y ≡ 𝟘
+      pub insert-solves : (y : ℕ → El) → defect R k (W j) y ≡ 𝟘 → defect R k e y ≡ 𝟘
       insert-solves y s =
-          let r = residue R k e y in
+          let r = defect R k e y in
           let z : c ⊗ r ≡ 𝟘 = sym (insert-value y) ∙ s in
           minus-none r (ap (λ n. n ⊗ r) (sym turned ∙ mul-comm c (e j)) ∙ mul-assoc (e j) c r ∙ ap (λ n. e j ⊗ n) z ∙ mul-nil R (e j))
 
@@ -189,9 +188,9 @@ module _ (R : Ring) where
     update-other y j v m n = rw (ne-eqb m j n)
 
     abbrev pub Solves-from : (U : ℕ → ℕ → El) → (b : ℕ) → (y : ℕ → El) → Type 0
-    Solves-from U b y = (i : ℕ) → b ≤ i → i < k → residue R k (U i) y ≡ 𝟘
+    Solves-from U b y = (i : ℕ) → b ≤ i → i < k → defect R k (U i) y ≡ 𝟘
 
-    pub record Filled (U : ℕ → ℕ → El) (b t : ℕ) (y : ℕ → El) : Type 0 where
+    pub record Completed (U : ℕ → ℕ → El) (b t : ℕ) (y : ℕ → El) : Type 0 where
       pub z : ℕ → El
       pub clear : (m : ℕ) → m < b → z m ≡ 𝟘
       pub solves : Solves-from U b z
@@ -205,30 +204,30 @@ module _ (R : Ring) where
       pub differ : y j ≢ z j
 
     -- back substitution
-    module _ (U : ℕ → ℕ → El) (E : Echelon R k U) where
-      keep : (i j : ℕ) (y z : ℕ → El) → i < k → j < i → ((m : ℕ) → m ≢ j → z m ≡ y m) → residue R k (U i) z ≡ residue R k (U i) y
+    module _ (U : ℕ → ℕ → El) (E : Steps R k U) where
+      keep : (i j : ℕ) (y z : ℕ → El) → i < k → j < i → ((m : ℕ) → m ≢ j → z m ≡ y m) → defect R k (U i) z ≡ defect R k (U i) y
       keep i j y z hi hj h =
           let e = E .low i j hi hj in
-          let s = residue-swap j (U i) z y (omega arith) (λ m p n. ap (λ x. U i m ⊗ x) (h m n)) in
-          cc (e, s, nil-mul R (y j), nil-mul R (z j), add-nil (residue R k (U i) z), add-nil (residue R k (U i) y))
+          let s = defect-swap j (U i) z y (omega arith) (λ m p n. ap (λ x. U i m ⊗ x) (h m n)) in
+          cc (e, s, nil-mul R (y j), nil-mul R (z j), add-nil (defect R k (U i) z), add-nil (defect R k (U i) y))
 
       -- row j, solved by its own unknown
-      pub solve-row : (j : ℕ) (y z : ℕ → El) → j < k → y j ≡ 𝟘 → ((m : ℕ) → m ≢ j → z m ≡ y m) → z j ≡ residue R k (U j) y
+      pub solve-row : (j : ℕ) (y z : ℕ → El) → j < k → y j ≡ 𝟘 → ((m : ℕ) → m ≢ j → z m ≡ y m) → z j ≡ defect R k (U j) y
           → Solves-from U (suc j) y → Solves-from U j z
       solve-row j y z hj e h v s i hl hi = go (ℕ-discrete i j) (dec (U j j) 𝟘)
         where
-          go : Dec (i ≡ j) → Dec (U j j ≡ 𝟘) → residue R k (U i) z ≡ 𝟘
+          go : Dec (i ≡ j) → Dec (U j j ≡ 𝟘) → defect R k (U i) z ≡ 𝟘
           go (yes p) (yes n) = rw p (bare-solved U E j hj n z)
           go (yes p) (no n) =
-              let w = residue-swap j (U j) y z hj (λ m l d. ap (λ x. U j m ⊗ x) (sym (h m d))) in
-              let r = residue R k (U j) y in
+              let w = defect-swap j (U j) y z hj (λ m l d. ap (λ x. U j m ⊗ x) (sym (h m d))) in
+              let r = defect R k (U j) y in
               rw p (cc (
                 w,
                 E .head j hj n,
                 minus-one r,
                 add-comm ((𝟘 ⊖ 𝟙) ⊗ r) r,
                 mul-nil R (𝟘 ⊖ 𝟙),
-                add-nil (residue R k (U j) z),
+                add-nil (defect R k (U j) z),
               ))
           go (no p) _ = keep i j y z hi (omega arith) h ∙ s i (omega arith) hi
 
@@ -236,37 +235,33 @@ module _ (R : Ring) where
       pub solve-free : (j : ℕ) (y z : ℕ → El) → j < k → U j j ≡ 𝟘 → ((m : ℕ) → m ≢ j → z m ≡ y m) → Solves-from U (suc j) y → Solves-from U j z
       solve-free j y z hj n h s i hl hi = go (ℕ-discrete i j)
         where
-          go : Dec (i ≡ j) → residue R k (U i) z ≡ 𝟘
+          go : Dec (i ≡ j) → defect R k (U i) z ≡ 𝟘
           go (yes p) = rw p (bare-solved U E j hj n z)
           go (no p) = keep i j y z hi (omega arith) h ∙ s i (omega arith) hi
 
-      pub fill : (d b : ℕ) (y : ℕ → El) → d + b ≤ k → ((m : ℕ) → m < d + b → y m ≡ 𝟘) → Solves-from U (d + b) y → Filled U b (d + b) y
+      pub fill : (d b : ℕ) (y : ℕ → El) → d + b ≤ k → ((m : ℕ) → m < d + b → y m ≡ 𝟘) → Solves-from U (d + b) y → Completed U b (d + b) y
       fill zero b y h hz s =
           record { z = y; clear = λ m n. hz m (omega arith); solves = λ i p n. s i (omega arith) n; same = λ m n. refl }
       fill (suc d) b y h hz s =
           let j = d + b in
-          let v = residue R k (U j) y in
-          let r : Filled U b (d + b) (update y j v)
+          let v = defect R k (U j) y in
+          let r : Completed U b (d + b) (update y j v)
           = fill d b (update y j v) (omega arith) (λ m n. update-other y j v m (omega arith) ∙ hz m (omega arith))
           (solve-row j y (update y j v) (omega arith) (hz j (omega arith)) (update-other y j v) (update-same y j v) (λ i p n. s i (omega arith) n)) in
           record { z = r .z; clear = r .clear; solves = r .solves; same = λ m n. r .same m (omega arith) ∙ update-other y j v m (omega arith) }
-
-      -- there is always a solution
-      pub solution : Filled U 0 (k + 0) (λ _. 𝟘)
-      solution = fill k 0 (λ _. 𝟘) (omega arith) (λ _ _. refl) (λ i p n. absurd (omega arith))
 
       -- with a bare row, two
       pub two : 𝟙 ≢ 𝟘 → (j : ℕ) → j < k → U j j ≡ 𝟘 → Two U j
       two d j hj n =
           let t = k - suc j in
-          let o : Filled U (suc j) (t + suc j) (λ _. 𝟘)
+          let o : Completed U (suc j) (t + suc j) (λ _. 𝟘)
           = fill t (suc j) (λ _. 𝟘) (omega arith) (λ _ _. refl) (λ i p h. absurd (omega arith)) in
           let y = o .z in
           let w = update y j 𝟙 in
-          let a : Filled U 0 (j + 0) y
+          let a : Completed U 0 (j + 0) y
           = fill j 0 y (omega arith) (λ m h. o .clear m (omega arith))
           (λ i p h. solve-free j y y hj n (λ _ _. refl) (o .solves) i (omega arith) h) in
-          let b : Filled U 0 (j + 0) w
+          let b : Completed U 0 (j + 0) w
           = fill j 0 w (omega arith) (λ m h. update-other y j 𝟙 m (omega arith) ∙ o .clear m (omega arith))
           (λ i p h. solve-free j y w hj n (update-other y j 𝟙) (o .solves) i (omega arith) h) in
           let e0 : a .z j ≡ 𝟘 = a .same j (omega arith) ∙ o .clear j (omega arith) in
@@ -295,7 +290,7 @@ module _ (R : Ring) where
 
           go : ((p : ℕ) → p < k → p ≢ m → U m p ⊗ y p ≡ U m p ⊗ z p) → y m ≡ z m
           go t =
-              let w = residue-swap m (U m) y z h t in
+              let w = defect-swap m (U m) y z h t in
               let v = sy m h in
               let u = sz m h in
               let f : (𝟘 ⊖ 𝟙) ⊗ z m ≡ (𝟘 ⊖ 𝟙) ⊗ y m
@@ -303,45 +298,8 @@ module _ (R : Ring) where
               add-cancel R (y m) (z m) ((𝟘 ⊖ 𝟙) ⊗ y m)
               (add-comm (y m) ((𝟘 ⊖ 𝟙) ⊗ y m) ∙ minus-one (y m) ∙ sym (minus-one (z m)) ∙ add-comm ((𝟘 ⊖ 𝟙) ⊗ z m) (z m) ∙ ap (λ n. z m ⊕ n) f)
 
-      pub unique : ((i : ℕ) → i < k → U i i ≢ 𝟘) → (y z : ℕ → El) → Solves R k U y → Solves R k U z → (m : ℕ) → m < k → y m ≡ z m
-      unique full y z sy sz m h = only y z full sy sz k m h (omega arith)
-
-      data Bare (l : ℕ) : Type 0 where
-        at : (j : ℕ) → j < l → U j j ≡ 𝟘 → Bare l
-        none : ((i : ℕ) → i < l → U i i ≢ 𝟘) → Bare l
-
-      bare? : (l : ℕ) → Bare l
-      bare? zero = none (λ i h. absurd (omega arith))
-      bare? (suc l) = go (dec (U l l) 𝟘) (bare? l)
-        where
-          go : Dec (U l l ≡ 𝟘) → Bare l → Bare (suc l)
-          go (yes e) b = at l (omega arith) e
-          go (no n) (at j h e) = at j (omega arith) e
-          go (no n) (none h) = none (λ i g. case i g (ℕ-discrete i l))
-            where
-              case : (i : ℕ) → i < suc l → Dec (i ≡ l) → U i i ≢ 𝟘
-              case i g (yes w) = rw w n
-              case i g (no w) = h i (omega arith)
-
-      pub echelon-solutions : 𝟙 ≢ 𝟘 → Solutions R k (Solves R k U)
-      echelon-solutions d = go (bare? k)
-        where
-          go : Bare k → Solutions R k (Solves R k U)
-          go (at j h e) = let t = two d j h e in more-solutions (t .y) (t .z) (t .y-solves) (t .z-solves) j h (t .differ)
-          go (none h) =
-              let s = solution in
-              let p : Solves R k U (s .z) = λ i l. s .solves i (omega arith) l in
-              one-solution (s .z) p (λ z q m l. unique h z (s .z) q p m l)
-
-      -- the same with one more equation that has no unknown left: none at all where its constant is not 0
-      pub solutions : 𝟙 ≢ 𝟘 → (e : ℕ → El) → ((m : ℕ) → m < k → e m ≡ 𝟘) → Solutions R k (λ y. Solves R k U y × (residue R k e y ≡ 𝟘))
-      solutions d e h = go (dec (e k) 𝟘) (echelon-solutions d)
-        where
-          go : Dec (e k ≡ 𝟘) → Solutions R k (Solves R k U) → Solutions R k (λ y. Solves R k U y × (residue R k e y ≡ 𝟘))
-          go (no n) s = no-solution (λ y p. n (sym (residue-const e y h) ∙ p .1))
-          go (yes z) (no-solution s) = no-solution (λ y p. s y (p .0))
-          go (yes z) (one-solution y p u) = one-solution y (p, residue-const e y h ∙ z) (λ w r. u w (r .0))
-          go (yes z) (more-solutions y w p r m l d) = more-solutions y w (p, residue-const e y h ∙ z) (r, residue-const e w h ∙ z) m l d
+      pub unique-solution : ((i : ℕ) → i < k → U i i ≢ 𝟘) → (y z : ℕ → El) → Solves R k U y → Solves R k U z → (m : ℕ) → m < k → y m ≡ z m
+      unique-solution full y z sy sz m h = only y z full sy sz k m h (omega arith)
 
 module _ (F : Field) where
   open Field F using (ring, inv, mul-inv)

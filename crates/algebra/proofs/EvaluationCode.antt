@@ -1,18 +1,16 @@
 -- Two different messages of a code of polynomials' values share few places: a difference of low degree has few roots. Assumes nothing.
 --   same-message    messages that share more places than the degree are one
---   far-apart       so different ones share at most that many
 use mathlib.Core.Path.{_≡_, sym, ap, _∙_}
 use mathlib.Core.Bool.{Bool}
 use mathlib.Core.List.{List}
 use Prim.Native.Nat.{ℕ, suc, _≤_, _<_}
-use native.Mathlib.Decide.{decLe}
 use native.Mathlib.Omega.{arith}
 use lib.Dec.{T}
 use lib.ListN.{length}
 use Rattle.algebra.specs.Ring.{Ring, Field}
 use Rattle.algebra.specs.Sequence.{count}
 use Rattle.algebra.specs.Polynomial.{eval, Zeros, diff}
-use Rattle.algebra.specs.EvaluationCode.{EvaluationCode, symbol-at, Far-apart}
+use Rattle.algebra.specs.EvaluationCode.{EvaluationCode, symbol-at}
 use Rattle.algebra.proofs.Ring.{sub-self}
 use Rattle.algebra.proofs.Polynomial.{eval-diff, length-diff-same, eq-of-diff, roots-counted}
 
@@ -40,11 +38,3 @@ module _ {F : Field} {n k most : ℕ} (C : EvaluationCode F n k most) where
       zeros =
           roots-counted F (C .point) t n (C .coefs (diff ring xs ys)) (C .differ) (λ i b m. symbol-diff xs ys h l i (s i b m))
           (omega (arith, C .few (diff ring xs ys) d))
-
-  pub far-apart : Far-apart C
-  unfolding Far-apart
-  far-apart xs ys h l differ t s = go (decLe (suc most) (count t n))
-    where
-      go : Dec (suc most ≤ count t n) → count t n ≤ most
-      go (yes e) = absurd (differ (same-message xs ys h l t s e))
-      go (no e) = omega arith

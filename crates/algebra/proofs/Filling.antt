@@ -11,7 +11,7 @@ use native.Mathlib.Omega.{arith}
 use lib.ListN.{length, take, drop, set, length-set, length-drop, take-append-drop}
 use lib.Seq.{length-take-le, getD-take, getD-drop, getD-set-same, getD-set-other, ext-getD}
 use Rattle.algebra.specs.Sequence.{at, tabulate}
-use Rattle.algebra.proofs.Sequence.{tabulate-is}
+use Rattle.algebra.proofs.Tabulate.{tabulate-is}
 
 pub record Filled (f : ℕ → ℕ) (m : ℕ) (a z : List ℕ) : Type 0 where
   pub size : length z ≡ length a

@@ -14,7 +14,7 @@ use Rattle.algebra.specs.Sequence.{tabulate}
 use Rattle.algebra.specs.Strand.{strand}
 use Rattle.algebra.specs.Polynomial.{eval}
 use Rattle.algebra.proofs.Ring.{nil-add, mul-nil, unit-mul, pow-add, pow-mul}
-use Rattle.algebra.proofs.Sequence.{tabulate-same}
+use Rattle.algebra.proofs.Tabulate.{tabulate-same}
 use Rattle.algebra.proofs.Monomials.{terms, spread, eval-spread}
 use Rattle.algebra.proofs.Locality.{raised}
 use Rattle.algebra.proofs.Strands.{strand-own, strand-other, turns, turns-none, turns-own, turns-next, turns-other}

@@ -7,7 +7,7 @@ use mathlib.Core.Path.{_≡_, refl, sym, ap, ap₂, _∙_}
 use mathlib.Core.Logic.{_≢_}
 use mathlib.Core.Bool.{Bool, true, false, cond}
 use mathlib.Core.List.{List, [], _∷_, map}
-use Prim.Native.Nat.{ℕ, zero, suc, _≤_, _<_, zero-le, suc-le-suc}
+use Prim.Native.Nat.{ℕ, suc, _≤_, _<_, zero-le, suc-le-suc}
 use native.Mathlib.Omega.{arith}
 use lib.Dec.{eqb}
 use lib.ListN.{length, length-map}
@@ -16,7 +16,8 @@ use Rattle.algebra.specs.Sequence.{Each, Distinct, In, here, there}
 use Rattle.algebra.specs.Polynomial.{Poly}
 use Rattle.algebra.specs.Interpolation.{weigh, weighted}
 use Rattle.algebra.proofs.Ring.{nil-add, nil-mul, mul-nil, unit-mul, sub-self, eq-of-sub}
-use Rattle.algebra.proofs.Sequence.{each-intro, each-at, each-map, distinct-map, Same, same, other, same?}
+use Rattle.algebra.proofs.Equality.{Same, same, other, same?}
+use Rattle.algebra.proofs.Each.{each-intro, each-at, each-map, distinct-map}
 use Rattle.algebra.proofs.Polynomial.{poly-const, poly-zero, poly-more, poly-add, poly-scale, poly-linear, poly-same, unique}
 
 -- how many of a list are not m

@@ -19,7 +19,8 @@ use Rattle.algebra.specs.Sequence.{tabulate-from, tabulate}
 use Rattle.algebra.specs.Polynomial.{eval, Zeros, diff}
 use Rattle.algebra.specs.EvaluationCode.{EvaluationCode, symbol-at}
 use Rattle.algebra.proofs.Ring.{nil-add, mul-nil, mul-left-comm, sub-self, add-interchange, sub-interchange}
-use Rattle.algebra.proofs.Sequence.{Same, same, other, same?, length-tabulate, each-tabulate, tabulate-same}
+use Rattle.algebra.proofs.Equality.{Same, same, other, same?}
+use Rattle.algebra.proofs.Tabulate.{length-tabulate, each-tabulate, tabulate-same}
 
 module _ (R : Ring) where
   open Ring R using (El, nil as 𝟘, unit as 𝟙, add as _⊕_, sub as _⊖_, mul as _⊗_, add-nil, mul-add, mul-unit)

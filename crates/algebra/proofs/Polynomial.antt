@@ -10,7 +10,7 @@ use mathlib.Core.Path.{_≡_, refl, sym, ap, ap₂, _∙_}
 use mathlib.Core.Logic.{_≢_}
 use mathlib.Core.Bool.{Bool}
 use mathlib.Core.List.{List, [], _∷_}
-use Prim.Native.Nat.{ℕ, zero, suc, _+_, _-_, _≤_, _<_, zero-le, suc-le-suc}
+use Prim.Native.Nat.{ℕ, zero, suc, _-_, _≤_, _<_, zero-le, suc-le-suc}
 use native.Mathlib.Nat.{le-refl, not-suc-le-zero, le-of-suc-le-suc}
 use native.Mathlib.Omega.{arith}
 use lib.Dec.{T}
@@ -19,7 +19,8 @@ use Rattle.algebra.specs.Ring.{Ring, Field}
 use Rattle.algebra.specs.Sequence.{Each, Distinct, count}
 use Rattle.algebra.specs.Polynomial.{eval, Zeros, diff, Poly}
 use Rattle.algebra.proofs.Ring.{nil-add, add-left-comm, mul-left-comm, mul-nil, sub-self, sub-nil, sub-interchange, mul-sub, eq-of-sub, sub-is, same-multiple}
-use Rattle.algebra.proofs.Sequence.{each-zip, picked, length-picked, picked-each, picked-distinct}
+use Rattle.algebra.proofs.Each.{each-zip}
+use Rattle.algebra.proofs.Picked.{picked, length-picked, picked-each, picked-distinct}
 
 module _ (R : Ring) where
   open Ring R using (El, nil as 𝟘, unit as 𝟙, add as _⊕_, sub as _⊖_, mul as _⊗_, add-comm, add-assoc, add-nil, sub-add, mul-comm, mul-assoc, mul-add)

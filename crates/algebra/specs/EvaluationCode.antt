@@ -2,16 +2,11 @@
 --   EvaluationCode F n k most  == messages of k symbols give polynomials of degree at most most, linearly and injectively,
 --                                 and places 0 to n - 1 have different points
 --   symbol-at C ms i           == the symbol of the message ms at place i
---   Far-apart C                == two different messages share at most most places
 use mathlib.Core.Path.{_≡_}
-use mathlib.Core.Logic.{_≢_}
-use mathlib.Core.Bool.{Bool}
 use mathlib.Core.List.{List}
 use Prim.Native.Nat.{ℕ, suc, _≤_, _<_}
-use lib.Dec.{T}
 use lib.ListN.{length}
-use Rattle.algebra.specs.Ring.{Ring, Field}
-use Rattle.algebra.specs.Sequence.{count}
+use Rattle.algebra.specs.Ring.{Field}
 use Rattle.algebra.specs.Polynomial.{eval, Zeros, diff}
 
 pub record EvaluationCode (F : Field) (n k most : ℕ) : Type 0 where
@@ -25,9 +20,3 @@ pub record EvaluationCode (F : Field) (n k most : ℕ) : Type 0 where
 module _ {F : Field} {n k most : ℕ} (C : EvaluationCode F n k most) where
   unfoldable pub symbol-at : List (F .ring .El) → ℕ → F .ring .El
   symbol-at ms i = eval (F .ring) (C .coefs ms) (C .point i)
-
-  -- t marks places that the two share
-  unfoldable pub Far-apart : Type 0
-  Far-apart =
-      (xs ys : List (F .ring .El)) → length xs ≡ k → length ys ≡ k → xs ≢ ys
-      → (t : ℕ → Bool) → ((i : ℕ) → i < n → T (t i) → symbol-at xs i ≡ symbol-at ys i) → count t n ≤ most

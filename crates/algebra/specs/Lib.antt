@@ -1,4 +1,5 @@
 pub mod Sequence
+pub mod Writing
 pub mod Ring
 pub mod Polynomial
 pub mod Interpolation

@@ -5,7 +5,7 @@ use mathlib.Core.List.{List}
 use Prim.Native.Nat.{ℕ}
 use lib.ListN.{length}
 use Rattle.algebra.specs.Sequence.{at}
-use Rattle.algebra.proofs.Sequence.{tabulate-is}
+use Rattle.algebra.proofs.Tabulate.{tabulate-is}
 use Rattle.algebra.proofs.Filling.{Filled, filled-all}
 
 pub copied : (xs : List ℕ) (m : ℕ) (a z : List ℕ) → m ≡ length xs → length a ≡ length xs → Filled (at xs) m a z → z ≡ xs

@@ -11,7 +11,7 @@ use native.Mathlib.Omega.{arith}
 use borrow.Author.Tests.{eq-eqb}
 use lib.Arith.{digits-div}
 use lib.Dec.{T, leb, eqb, eqb→eq, leb→le}
-use Rattle.algebra.proofs.Sequence.{so, and-left, and-right}
+use Rattle.algebra.proofs.Booleans.{so, and-left, and-right}
 use Rattle.field.specs.Field.{q}
 use Rattle.code.specs.declared.Code.{Code}
 use Rattle.code.specs.declared.Shape.{Shape}

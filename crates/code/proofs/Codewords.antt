@@ -12,7 +12,10 @@ use native.Mathlib.Omega.{arith}
 use lib.Dec.{T, eqb, eqb→eq, eqb-refl, ltb, ltb→lt}
 use lib.ListN.{length, replicate, length-replicate}
 use Rattle.algebra.specs.Sequence.{at, all-below}
-use Rattle.algebra.proofs.Sequence.{so, yes-true, and-left, and-right, and-both, length-tabulate, at-tabulate, at-replicate, all-below-intro}
+use Rattle.algebra.proofs.Booleans.{so, yes-true, and-left, and-right, and-both}
+use Rattle.algebra.proofs.At.{at-replicate}
+use Rattle.algebra.proofs.Tabulate.{length-tabulate, at-tabulate}
+use Rattle.algebra.proofs.Below.{all-below-intro}
 use Rattle.algebra.proofs.Ring.{mul-nil}
 use Rattle.field.specs.Field.{q, plus, times}
 use Rattle.field.proofs.Laws.{laws}

@@ -15,19 +15,20 @@ use lib.Arith.{digits-div, digits-mod}
 use lib.Dec.{T, eqb→eq}
 use lib.ListN.{length, length-map, List·getD-map}
 use Rattle.algebra.specs.Sequence.{at, tabulate, all-below}
-use Rattle.algebra.proofs.Sequence.{so, length-tabulate, at-tabulate}
+use Rattle.algebra.proofs.Booleans.{so}
+use Rattle.algebra.proofs.Tabulate.{length-tabulate, at-tabulate}
 use Rattle.algebra.proofs.Monomials.{spread, spread-at, spread-out, eval-spread}
 use Rattle.algebra.proofs.Locality.{raised}
 use Rattle.field.specs.Field.{q}
 use Rattle.field.specs.Polynomial.{poly}
 use Rattle.field.proofs.Elem.{Elem, ring-of, el}
+use Rattle.field.proofs.Elements.{els, nums, nums-els, nums-below, poly-nums}
 use Rattle.code.specs.declared.Shape.{Shape}
 use Rattle.code.specs.Shape.{size, missing, whole, point}
 use Rattle.code.specs.Basis.{exponent, degree}
 use Rattle.code.specs.Codeword.{value-from, value, symbol}
 use Rattle.code.specs.Laws.{Placed}
 use Rattle.code.proofs.Points.{locator, locator-is}
-use Rattle.code.proofs.Elements.{els, nums, nums-els, nums-below, poly-nums}
 use Rattle.code.proofs.Codewords.{Message-is}
 use Rattle.code.proofs.Monomial.{value-terms}
 use Rattle.code.proofs.Grouped.{exponent-raised, exponent-injective, exponent-monotone, exponent-block}

@@ -8,7 +8,10 @@ use Prim.Native.Nat.{ℕ, _+_, _-_, _≤_, _<_}
 use native.Mathlib.Omega.{arith}
 use lib.Dec.{T, eqb, eqb→eq}
 use Rattle.algebra.specs.Sequence.{at}
-use Rattle.algebra.proofs.Sequence.{so, yes-true, and-left, and-right, Same, other, same?, every-at, count-split}
+use Rattle.algebra.proofs.Booleans.{so, yes-true, and-left, and-right}
+use Rattle.algebra.proofs.Equality.{Same, other, same?}
+use Rattle.algebra.proofs.Every.{every-at}
+use Rattle.algebra.proofs.Counting.{count-split}
 use Rattle.code.specs.declared.Shape.{Shape}
 use Rattle.code.specs.Shape.{room, missing}
 use Rattle.code.specs.Basis.{degree, most-shared}

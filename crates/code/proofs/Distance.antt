@@ -12,19 +12,20 @@ use lib.ListN.{length, length-map}
 use Rattle.algebra.specs.Sequence.{at, count, tabulate}
 use Rattle.algebra.specs.Polynomial.{eval, Zeros}
 use Rattle.algebra.specs.EvaluationCode.{EvaluationCode, symbol-at}
-use Rattle.algebra.proofs.Sequence.{so, count-all}
+use Rattle.algebra.proofs.Booleans.{so}
+use Rattle.algebra.proofs.Counting.{count-all}
 use Rattle.algebra.proofs.Polynomial.{eval-zeros}
 use Rattle.algebra.proofs.Mixed.{mix, mixed-code, symbol-sums}
 use Rattle.algebra.proofs.Shortened.{same-message-shortened, far-apart-shortened}
 use Rattle.field.specs.Field.{q}
 use Rattle.field.proofs.Elem.{Elem, same as same-el, ring-of, field-of, el}
+use Rattle.field.proofs.Elements.{els, nums, els-nums, nums-below, els-injective, zeros-of-nums}
 use Rattle.code.specs.declared.Shape.{Shape}
 use Rattle.code.specs.Shape.{room, missing, point}
 use Rattle.code.specs.Basis.{degree, most-shared}
 use Rattle.code.specs.Codeword.{value, symbol, encoded, shared}
 use Rattle.code.specs.Laws.{Family}
 use Rattle.code.specs.Promise.{Far-apart, Encoding-injective}
-use Rattle.code.proofs.Elements.{els, nums, els-nums, nums-below, els-injective, zeros-of-nums}
 use Rattle.code.proofs.Places.{n-room}
 use Rattle.code.proofs.Points.{locator, locator-is, locators-differ}
 use Rattle.code.proofs.Codewords.{Message-is, message-is, is-message-of, at-encoded, value-none}

@@ -12,18 +12,21 @@ use Rattle.algebra.specs.Ring.{Ring, Field}
 use Rattle.algebra.specs.Sequence.{all-below, Each, In}
 use Rattle.algebra.specs.Polynomial.{eval, Poly}
 use Rattle.algebra.specs.Interpolation.{weighted}
-use Rattle.algebra.proofs.Sequence.{so, yes-true, Same, same, same?, each-intro, each-at, each-map, distinct-map, map-each, each-of-map, lookup, lookup-below, map-lookup}
+use Rattle.algebra.proofs.Booleans.{so, yes-true}
+use Rattle.algebra.proofs.Equality.{Same, same, same?}
+use Rattle.algebra.proofs.Each.{each-intro, each-at, each-map, distinct-map, map-each, each-of-map}
+use Rattle.algebra.proofs.Lookup.{lookup, lookup-below, map-lookup}
 use Rattle.algebra.proofs.Polynomial.{pad, length-pad, eval-pad, unique-coefs}
 use Rattle.algebra.proofs.Interpolation.{through, weighted-poly}
 use Rattle.field.specs.Field.{q}
 use Rattle.field.specs.Polynomial.{poly, dotted}
 use Rattle.field.proofs.Elem.{Elem, same as same-el, ring-of, field-of, zero-below, el, el-is}
+use Rattle.field.proofs.Elements.{els, nums, els-injective, nums-below, poly-nums, poly-els}
 use Rattle.code.specs.declared.Shape.{Shape}
 use Rattle.code.specs.Shape.{size, room, group, members, point, others, mates}
 use Rattle.code.specs.Repair.{restored, weights, repaired}
 use Rattle.code.specs.Laws.{Placed}
 use Rattle.code.specs.Promise.{Weights-law, Through, Repair-interpolates}
-use Rattle.code.proofs.Elements.{els, nums, els-injective, nums-below, poly-nums, poly-els}
 use Rattle.code.proofs.Places.{n-room}
 use Rattle.code.proofs.Points.{locator}
 use Rattle.code.proofs.Fronts.{each-both, in-drop}

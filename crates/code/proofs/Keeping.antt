@@ -10,7 +10,11 @@ use native.Mathlib.Omega.{arith}
 use lib.Dec.{T, eqb, eqb-refl}
 use lib.ListN.{length}
 use Rattle.algebra.specs.Sequence.{at, In}
-use Rattle.algebra.proofs.Sequence.{yes-true, no-false, each-intro, each-at, map-each, at-tabulate, at-past, every-intro}
+use Rattle.algebra.proofs.Booleans.{yes-true, no-false}
+use Rattle.algebra.proofs.Each.{each-intro, each-at, map-each}
+use Rattle.algebra.proofs.At.{at-past}
+use Rattle.algebra.proofs.Tabulate.{at-tabulate}
+use Rattle.algebra.proofs.Every.{every-intro}
 use Rattle.code.specs.declared.Shape.{Shape}
 use Rattle.code.specs.Shape.{group}
 use Rattle.code.specs.Codeword.{is-message, encoded}

@@ -10,18 +10,18 @@ use lib.ListN.{length-map}
 use Rattle.algebra.specs.Sequence.{all-below}
 use Rattle.algebra.specs.Polynomial.{Poly}
 use Rattle.algebra.specs.EvaluationCode.{EvaluationCode, symbol-at}
-use Rattle.algebra.proofs.Sequence.{yes-true}
+use Rattle.algebra.proofs.Booleans.{yes-true}
 use Rattle.algebra.proofs.Polynomial.{pad, length-pad, eval-pad}
 use Rattle.algebra.proofs.Zeros.{zero-message}
 use Rattle.field.specs.Field.{q}
 use Rattle.field.specs.Polynomial.{poly}
 use Rattle.field.proofs.Elem.{Elem, same as same-el, ring-of, field-of, el}
+use Rattle.field.proofs.Elements.{els, nums, nums-els, nums-below, nums-of-zeros, poly-nums}
 use Rattle.code.specs.declared.Shape.{Shape}
 use Rattle.code.specs.Shape.{room, group, point}
 use Rattle.code.specs.Basis.{degree}
 use Rattle.code.specs.Codeword.{is-message, value, symbol}
 use Rattle.code.specs.Laws.{Polynomial, On-group}
-use Rattle.code.proofs.Elements.{els, nums, nums-els, nums-below, nums-of-zeros, poly-nums}
 use Rattle.code.proofs.Points.{locator, locator-is, point-below}
 use Rattle.code.proofs.Codewords.{Message-is, message-is}
 

@@ -3,7 +3,6 @@ pub mod Asking
 pub mod Answers
 pub mod Fronts
 pub mod Counted
-pub mod Elements
 pub mod Places
 pub mod Points
 pub mod Codewords

@@ -14,7 +14,7 @@ use borrow.Author.Tests.{le-leb, lt-leb, eq-eqb, ne-eqb, eqb-true}
 use lib.Dec.{leb, eqb}
 use lib.ListN.{length, take}
 use lib.Seq.{take-all}
-use Rattle.algebra.proofs.Sequence.{so, yes-true, and-left, and-right}
+use Rattle.algebra.proofs.Booleans.{so, yes-true, and-left, and-right}
 use Rattle.algebra.proofs.Counting.{count-one}
 use Rattle.code.specs.declared.Shape.{Shape}
 use Rattle.code.specs.Shape.{size, room, group, member, members, slot-at, others-from, others, mates}

@@ -15,7 +15,10 @@ use lib.Dec.{ltb, ltb→lt, lt→ltb}
 use lib.ListN.{length, length-map, length-drop, drop}
 use lib.Seq.{length-take-le, getD-take, getD-drop}
 use Rattle.algebra.specs.Sequence.{at, Each, Distinct, In}
-use Rattle.algebra.proofs.Sequence.{so, yes-true, each-at, at-map, count-most, count-same, count-all}
+use Rattle.algebra.proofs.Booleans.{so, yes-true}
+use Rattle.algebra.proofs.Each.{each-at}
+use Rattle.algebra.proofs.At.{at-map}
+use Rattle.algebra.proofs.Counting.{count-all, count-most, count-same}
 use Rattle.algebra.proofs.Leading.{leading-in, leading-out}
 use Rattle.code.specs.declared.Shape.{Shape}
 use Rattle.code.specs.Shape.{size, groups, room, whole, group, member, members, slot-at, others, mates}

@@ -16,18 +16,18 @@ use Rattle.algebra.specs.Sequence.{all-below}
 use Rattle.algebra.specs.Polynomial.{Poly}
 use Rattle.algebra.specs.EvaluationCode.{EvaluationCode, symbol-at}
 use Rattle.algebra.proofs.Ring.{pow-add, pow-mul}
-use Rattle.algebra.proofs.Sequence.{and-left, and-right}
+use Rattle.algebra.proofs.Booleans.{and-left, and-right}
 use Rattle.algebra.proofs.Polynomial.{poly-more, poly-scale}
 use Rattle.algebra.proofs.Monomials.{terms, monomial-code, symbol-terms}
 use Rattle.algebra.proofs.Blocks.{monic-power, monic-poly}
 use Rattle.field.specs.Field.{q, plus, times, power}
 use Rattle.field.proofs.Elem.{Elem, ring-of, field-of, pow-is, el, el-is}
+use Rattle.field.proofs.Elements.{els}
 use Rattle.code.specs.declared.Shape.{Shape}
 use Rattle.code.specs.Shape.{size, room, whole, group}
 use Rattle.code.specs.Basis.{exponent, whole-basis, short-basis, basis, degree}
 use Rattle.code.specs.Codeword.{value-from, value, symbol}
 use Rattle.code.specs.Laws.{Placed, Polynomial, On-group, Family}
-use Rattle.code.proofs.Elements.{els}
 use Rattle.code.proofs.Places.{whole-room}
 use Rattle.code.proofs.Points.{locator, locator-is, locators-differ, locator-power, group-constant}
 use Rattle.code.proofs.Codewords.{Message-is}

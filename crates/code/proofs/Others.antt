@@ -13,7 +13,8 @@ use native.Mathlib.Omega.{arith}
 use lib.Dec.{eqb}
 use lib.ListN.{length}
 use Rattle.algebra.specs.Sequence.{at, Each, Distinct, In}
-use Rattle.algebra.proofs.Sequence.{Same, same, other, same?, each-intro, each-at, each-index}
+use Rattle.algebra.proofs.Equality.{Same, same, other, same?}
+use Rattle.algebra.proofs.Each.{each-intro, each-at, each-index}
 use Rattle.code.specs.declared.Shape.{Shape}
 use Rattle.code.specs.Shape.{size, room, group, member, slot-at, others-from, others}
 use Rattle.code.specs.Laws.{Placed}

@@ -14,14 +14,14 @@ use Rattle.algebra.specs.Polynomial.{Poly}
 use Rattle.algebra.specs.Equations.{dot}
 use Rattle.algebra.specs.Interpolation.{weigh}
 use Rattle.algebra.proofs.Ring.{pow-add, pow-mul, unit-mul, root-is}
-use Rattle.algebra.proofs.Sequence.{each-intro, map-each}
+use Rattle.algebra.proofs.Each.{each-intro, map-each}
 use Rattle.algebra.proofs.Interpolation.{basis-poly, weigh-own, weigh-other}
 use Rattle.algebra.proofs.Equations.{dot-cong}
 use Rattle.algebra.proofs.Parity.{parity, cycle-sum, dot-two}
 use Rattle.field.specs.Field.{q, minus, times, power, inverse}
 use Rattle.field.proofs.Laws.{laws}
 use Rattle.field.proofs.Generator.{powers-differ}
-use Rattle.field.proofs.Elem.{Elem, ring-of, field-of, gen, pow-is, whole, inv}
+use Rattle.field.proofs.Elem.{Elem, ring-of, field-of, gen, pow-is, gen-whole, inv}
 use Rattle.code.specs.declared.Shape.{Shape}
 use Rattle.code.specs.Shape.{size, groups, room, group, member, slot-at, point, others, mates}
 use Rattle.code.specs.Repair.{weight-over, weights-over, weights}
@@ -76,7 +76,7 @@ module _ (s : Shape) (P : Placed s) where
     unfolding around
     around-closed =
         ap (pow R (gen f)) (omega (arith, width-size s P)) ∙ pow-add R (gen f) (q f - 1) (0 * width s + j)
-        ∙ ap (λ x. R .mul x (pow R (gen f) (0 * width s + j))) (whole f) ∙ unit-mul R (pow R (gen f) (0 * width s + j))
+        ∙ ap (λ x. R .mul x (pow R (gen f) (0 * width s + j))) (gen-whole f) ∙ unit-mul R (pow R (gen f) (0 * width s + j))
 
     power-sums : (e : ℕ) → 1 ≤ e → e < size s → (x : Elem f) → dot R (size s) (λ i. pow R (around i) e) (λ _. x) ≡ R .nil
     power-sums e h l x =

@@ -14,7 +14,11 @@ use lib.Dec.{T, leb, leb→le, le→leb, eqb, eqb-refl}
 use lib.ListN.{length, take}
 use lib.Seq.{length-take-le}
 use Rattle.algebra.specs.Sequence.{at, count, every, Each, Distinct}
-use Rattle.algebra.proofs.Sequence.{so, yes-true, every-intro, and-left, and-right, each-intro, each-at, each-of-map, map-each, at-tabulate, at-past}
+use Rattle.algebra.proofs.Booleans.{so, yes-true, and-left, and-right}
+use Rattle.algebra.proofs.Each.{each-intro, each-at, map-each, each-of-map}
+use Rattle.algebra.proofs.At.{at-past}
+use Rattle.algebra.proofs.Tabulate.{at-tabulate}
+use Rattle.algebra.proofs.Every.{every-intro}
 use Rattle.algebra.proofs.Counting.{count-zero, count-some}
 use Rattle.field.specs.Field.{q}
 use Rattle.code.specs.declared.Shape.{Shape}

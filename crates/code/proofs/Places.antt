@@ -15,7 +15,7 @@ use native.Mathlib.Omega.{arith}
 use borrow.Author.Tests.{eq-eqb}
 use lib.Arith.{digits-lt, digits-div, digits-mod}
 use lib.Dec.{eqb→eq}
-use Rattle.algebra.proofs.Sequence.{so}
+use Rattle.algebra.proofs.Booleans.{so}
 use Rattle.code.specs.declared.Shape.{Shape}
 use Rattle.code.specs.Shape.{ceiling, size, groups, room, missing, whole, wired, group, member, first, step, slot-at}
 use Rattle.code.specs.Laws.{Placed}

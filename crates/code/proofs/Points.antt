@@ -15,7 +15,7 @@ use Rattle.algebra.specs.Ring.{pow}
 use Rattle.algebra.proofs.Ring.{pow-add, pow-mul, pow-unit, unit-mul, pow-nonzero}
 use Rattle.field.specs.Field.{q, γ, power}
 use Rattle.field.proofs.Generator.{powers-differ}
-use Rattle.field.proofs.Elem.{Elem, same, ring-of, pow-is, power-below, gamma-below, gen, whole, field-of}
+use Rattle.field.proofs.Elem.{Elem, same, ring-of, pow-is, power-below, gamma-below, gen, gen-whole, field-of}
 use Rattle.code.specs.declared.Shape.{Shape}
 use Rattle.code.specs.Shape.{size, groups, room, group, member, slot-at, point-at, point}
 use Rattle.code.specs.Laws.{Placed}
@@ -122,7 +122,7 @@ module _ (s : Shape) (P : Placed s) where
       ap (λ x. pow R x g) (locator-gen s p) ∙ pow-mul R t (place s p) g
       ∙ ap (λ n. pow R t n) (split g w i j ∙ ap (λ n. n * i + j * g) (width-size s P))
       ∙ pow-add R t ((q (s .field) - 1) * i) (j * g)
-      ∙ ap (λ x. R .mul x (pow R t (j * g))) (sym (pow-mul R t (q (s .field) - 1) i) ∙ ap (λ x. pow R x i) (whole (s .field)) ∙ pow-unit R i)
+      ∙ ap (λ x. R .mul x (pow R t (j * g))) (sym (pow-mul R t (q (s .field) - 1) i) ∙ ap (λ x. pow R x i) (gen-whole (s .field)) ∙ pow-unit R i)
       ∙ unit-mul R (pow R t (j * g))
     where
       split : (g w i j : ℕ) → (i * w + j) * g ≡ w * g * i + j * g

@@ -7,17 +7,19 @@ use mathlib.Core.List.{List, map}
 use Prim.Native.Nat.{ℕ, _-_, _≤_, _<_}
 use native.Mathlib.Omega.{arith}
 use lib.ListN.{length, length-map}
-use Rattle.algebra.specs.Sequence.{at, all-below, Each, Distinct, In}
-use Rattle.algebra.proofs.Sequence.{so, yes-true, each-intro, each-at, map-each, at-tabulate}
+use Rattle.algebra.specs.Sequence.{at, all-below, Each, Distinct, In, column}
+use Rattle.algebra.proofs.Booleans.{so, yes-true}
+use Rattle.algebra.proofs.Each.{each-intro, each-at, map-each}
+use Rattle.algebra.proofs.Tabulate.{at-tabulate}
 use Rattle.field.specs.Field.{q}
 use Rattle.field.specs.Polynomial.{poly, dotted}
+use Rattle.field.proofs.Elements.{nums, nums-below, poly-nums}
 use Rattle.code.specs.declared.Shape.{Shape}
 use Rattle.code.specs.Shape.{groups, room, group, point, others, mates}
 use Rattle.code.specs.Codeword.{value, symbol, encoded}
-use Rattle.code.specs.Repair.{restored, weights, repaired, symbols-of, column, strip}
+use Rattle.code.specs.Repair.{restored, weights, repaired, symbols-of, strip}
 use Rattle.code.specs.Laws.{Placed, On-group, Family}
 use Rattle.code.specs.Promise.{Low-degree, Groups-tell, Restores, Repairs-back, Strip-restores, Weights-law}
-use Rattle.code.proofs.Elements.{nums, nums-below, poly-nums}
 use Rattle.code.proofs.Places.{n-room, group-below}
 use Rattle.code.proofs.Points.{locator, locator-is}
 use Rattle.code.proofs.Codewords.{Message-is, message-is, at-encoded}

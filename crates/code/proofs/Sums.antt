@@ -14,16 +14,17 @@ use lib.ListN.{length, length-map, getD}
 use Rattle.algebra.specs.Ring.{Ring}
 use Rattle.algebra.specs.Sequence.{all-below, tabulate-from, tabulate}
 use Rattle.algebra.specs.Polynomial.{eval}
-use Rattle.algebra.proofs.Sequence.{and-left, and-right, length-tabulate, tabulate-is}
+use Rattle.algebra.proofs.Booleans.{and-left, and-right}
+use Rattle.algebra.proofs.Tabulate.{length-tabulate, tabulate-is}
 use Rattle.algebra.proofs.Polynomial.{pad, length-pad, eval-pad}
 use Rattle.algebra.proofs.Mixed.{mix, sums, eval-mix}
 use Rattle.field.specs.Field.{q, plus, times}
 use Rattle.field.specs.Polynomial.{poly}
 use Rattle.field.proofs.Elem.{Elem, ring-of, el, el-is}
+use Rattle.field.proofs.Elements.{els, poly-els}
 use Rattle.code.specs.declared.Shape.{Shape}
 use Rattle.code.specs.Basis.{basis}
 use Rattle.code.specs.Codeword.{value-from, value}
-use Rattle.code.proofs.Elements.{els, poly-els}
 use Rattle.code.proofs.Codewords.{Message-is}
 
 -- at most l coefficients for each message symbol

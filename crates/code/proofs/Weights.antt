@@ -16,18 +16,19 @@ use Rattle.algebra.specs.Sequence.{all-below, Each, Distinct, In}
 use Rattle.algebra.specs.Polynomial.{eval, Poly}
 use Rattle.algebra.specs.Interpolation.{weigh, weighted}
 use Rattle.algebra.proofs.Ring.{mul-nil}
-use Rattle.algebra.proofs.Sequence.{so, each-intro, each-at, map-each}
+use Rattle.algebra.proofs.Booleans.{so}
+use Rattle.algebra.proofs.Each.{each-intro, each-at, map-each}
 use Rattle.algebra.proofs.Polynomial.{poly-of}
 use Rattle.algebra.proofs.Interpolation.{lagrange}
 use Rattle.field.specs.Field.{q, plus, minus, times, inverse}
 use Rattle.field.specs.Polynomial.{poly, dotted}
 use Rattle.field.proofs.Elem.{Elem, same as same-el, ring-of, field-of, inv, el}
+use Rattle.field.proofs.Elements.{els, poly-els}
 use Rattle.code.specs.declared.Shape.{Shape}
 use Rattle.code.specs.Shape.{size, room, group, members, point, others, mates}
 use Rattle.code.specs.Repair.{weight-over, weights-over, restored, weights}
 use Rattle.code.specs.Laws.{Placed}
 use Rattle.code.specs.Promise.{Weights-law}
-use Rattle.code.proofs.Elements.{els, poly-els}
 use Rattle.code.proofs.Places.{n-room}
 use Rattle.code.proofs.Points.{locator, locators-differ}
 use Rattle.code.proofs.Fronts.{in-drop}

@@ -14,7 +14,7 @@ use mathlib.Core.Bool.{true}
 use mathlib.Core.List.{List, map}
 use Prim.Native.Nat.{ℕ, _+_, _*_, _-_, _≤_, _<_}
 use lib.ListN.{length}
-use Rattle.algebra.specs.Sequence.{at, all-below, Each, Distinct, In}
+use Rattle.algebra.specs.Sequence.{at, all-below, Each, Distinct, In, column}
 use Rattle.field.specs.Field.{q, γ, minus, times, power, inverse}
 use Rattle.field.specs.Polynomial.{poly, dotted}
 use Rattle.code.specs.declared.Code.{Code}
@@ -25,7 +25,7 @@ use Rattle.code.specs.Family.{single, code-refusal}
 use Rattle.code.specs.Codeword.{is-message, value, symbol, encoded, Codeword, shared, guarantee}
 use Rattle.code.specs.Decoding.{agrees, fits}
 use Rattle.code.specs.Erasure.{lost-number}
-use Rattle.code.specs.Repair.{restored, weights, repaired, symbols-of, column, strip}
+use Rattle.code.specs.Repair.{restored, weights, repaired, symbols-of, strip}
 use Rattle.code.specs.Pass.{kept-places, mends, passed, marks-after}
 use Rattle.code.specs.Laws.{Placed, On-group, Family, Plain}
 

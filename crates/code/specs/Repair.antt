@@ -8,7 +8,7 @@ use mathlib.Core.List.{List, [], _∷_, map}
 use Prim.Native.Nat.{ℕ, _+_, _*_}
 use lib.Dec.{eqb}
 use lib.ListN.{length}
-use Rattle.algebra.specs.Sequence.{at, tabulate}
+use Rattle.algebra.specs.Sequence.{at, tabulate, column}
 use Rattle.field.specs.Field.{minus, times, inverse}
 use Rattle.field.specs.Polynomial.{dotted}
 use Rattle.code.specs.declared.Shape.{Shape}
@@ -36,9 +36,6 @@ repaired s p xs = restored s (others s p) (mates s p) p xs
 
 unfoldable pub symbols-of : (word : List ℕ) → (slots : List ℕ) → List ℕ
 symbols-of ws ps = map (at ws) ps
-
-unfoldable pub column : (r l i : ℕ) → List ℕ → List ℕ
-column r l i xs = tabulate (λ m. at xs (m * l + i)) r
 
 unfoldable pub strip : Shape → (slot l : ℕ) → List ℕ → List ℕ
 strip s p l xs = tabulate (λ i. repaired s p (column (length (mates s p)) l i xs)) l

@@ -9,7 +9,8 @@ use native.Mathlib.Omega.{arith}
 use lib.Dec.{T, eqb, eqb→eq, ltb, lt→ltb}
 use lib.ListN.{length}
 use Rattle.algebra.specs.Sequence.{at, every}
-use Rattle.algebra.proofs.Sequence.{yes-true, every-intro}
+use Rattle.algebra.proofs.Booleans.{yes-true}
+use Rattle.algebra.proofs.Every.{every-intro}
 use Rattle.field.specs.Field.{q}
 use Rattle.code.specs.declared.Shape.{Shape}
 use Rattle.code.specs.Codeword.{encoded, Codeword}

@@ -14,7 +14,7 @@ use borrow.Author.Tests.{eq-eqb, le-leb}
 use lib.Dec.{T, eqb, leb, eqb→eq, leb→le}
 use lib.ListN.{length}
 use Rattle.algebra.specs.Sequence.{all-below}
-use Rattle.algebra.proofs.Sequence.{yes-true, and-left, and-right}
+use Rattle.algebra.proofs.Booleans.{yes-true, and-left, and-right}
 use Rattle.code.specs.declared.Shape.{Shape}
 use Rattle.code.specs.Question.{ask, or-ask}
 use Rattle.code.specs.Erasure.{kept-below}

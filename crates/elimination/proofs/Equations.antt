@@ -16,10 +16,13 @@ use lib.Seq.{getD-drop, getD-take, length-take-le, getD-append-add}
 use borrow.Rule.Slice.PartMut.{putMid, midOf, postOf, same-len-mid}
 use borrow.Author.Tests.{ne-eqb, eq-eqb}
 use Rattle.algebra.specs.Sequence.{at, all-below}
-use Rattle.algebra.proofs.Sequence.{so, yes-true, every-at, every-intro}
+use Rattle.algebra.proofs.Booleans.{so, yes-true, differ}
+use Rattle.algebra.proofs.Every.{every-at, every-intro}
+use Rattle.algebra.proofs.Strides.{row-step}
 use Rattle.field.specs.Field.{q}
 use Rattle.field.specs.Polynomial.{dotted}
 use Rattle.field.proofs.Elem.{power-below}
+use Rattle.field.proofs.Products.{dotted-take}
 use Rattle.code.specs.Shape.{whole, point}
 use Rattle.code.specs.Basis.{basis, exponent}
 use Rattle.code.specs.Codeword.{symbol, encoded}
@@ -31,9 +34,7 @@ use Rattle.code.proofs.Codewords.{message-is, is-message-of, at-encoded}
 use Rattle.code.proofs.Decoding.{fits-message, fits-agrees, fits-intro, agrees-kept}
 use Rattle.code.proofs.Monomial.{basis-power}
 use Rattle.linear.specs.System.{Vector, entry, coefs, residue, Solved, Echelon, Inserted}
-use Rattle.linear.proofs.Rows.{row-step}
-use Rattle.linear.proofs.Elements.{dotted-take, echelon-kept, residue-kept}
-use Rattle.linear.proofs.Elimination.{differ}
+use Rattle.linear.proofs.Elements.{echelon-kept, residue-kept}
 use Rattle.linear.proofs.Substitution.{cleared-echelon, cleared-solved}
 use Rattle.elimination.specs.Task.{work-size}
 use Rattle.elimination.specs.Step.{Generator-row, Agrees-at, Agrees-below, Taken, Gathered}

@@ -4,11 +4,11 @@ use mathlib.Core.Path.{_≡_, refl, sym}
 use mathlib.Core.Bool.{Bool, true, false}
 use mathlib.Core.List.{List}
 use Prim.Native.Nat.{ℕ}
+use Rattle.algebra.proofs.Booleans.{differ}
 use Rattle.code.specs.Decoding.{fits}
 use Rattle.code.specs.Verdict.{Verdict, one, none, more}
 use Rattle.code.specs.declared.Shape.{Shape}
 use Rattle.linear.specs.System.{Vector, Solved, Finished, one as just, more as several}
-use Rattle.linear.proofs.Elimination.{differ}
 use Rattle.elimination.specs.Step.{Gathered}
 use Rattle.elimination.proofs.Equations.{fits-to, fits-of}
 

@@ -11,7 +11,7 @@ use native.Mathlib.Decide.{ℕ-discrete}
 use native.Mathlib.Omega.{arith}
 use lib.ListN.{length}
 use Rattle.algebra.specs.Sequence.{at}
-use Rattle.algebra.proofs.Sequence.{tabulate-is}
+use Rattle.algebra.proofs.Tabulate.{tabulate-is}
 use Rattle.algebra.proofs.Scattered.{Scattered}
 use Rattle.code.specs.Shape.{size, groups, group, member, first, step, slot-at}
 use Rattle.code.specs.Codeword.{symbol, encoded}

@@ -12,7 +12,7 @@ use lib.ListN.{length, take, drop, set, replicate, length-set, length-replicate,
 use lib.Seq.{drop-cons, getD-take, length-take-le, getD-set-same, getD-set-other}
 use Rattle.algebra.specs.Sequence.{at}
 use Rattle.algebra.specs.Strand.{strand}
-use Rattle.algebra.proofs.Sequence.{tabulate-is}
+use Rattle.algebra.proofs.Tabulate.{tabulate-is}
 use Rattle.algebra.proofs.Strands.{strand-own, strand-other}
 use Rattle.field.specs.Field.{plus, times}
 use Rattle.field.specs.Polynomial.{poly}

@@ -9,7 +9,7 @@ use Prim.Native.Nat.{ℕ}
 use lib.Dec.{T, eqb, eqb→eq}
 use lib.ListN.{length}
 use Rattle.algebra.specs.Sequence.{all-below}
-use Rattle.algebra.proofs.Sequence.{and-left, and-right}
+use Rattle.algebra.proofs.Booleans.{and-left, and-right}
 use Rattle.field.specs.Field.{q}
 use Rattle.code.specs.Question.{ask, or-ask}
 use Rattle.code.specs.declared.Shape.{Shape}

@@ -11,18 +11,18 @@ use Rattle.algebra.specs.Ring.{Ring}
 use Rattle.algebra.specs.Sequence.{at, tabulate}
 use Rattle.algebra.specs.Strand.{strand}
 use Rattle.algebra.specs.Polynomial.{eval}
-use Rattle.algebra.proofs.Sequence.{tabulate-same}
+use Rattle.algebra.proofs.Tabulate.{tabulate-same}
 use Rattle.algebra.proofs.Strands.{strand-map, map-tabulate}
 use Rattle.algebra.proofs.Folding.{folded-is}
 use Rattle.field.specs.Field.{power}
 use Rattle.field.specs.Polynomial.{poly}
 use Rattle.field.proofs.Elem.{Elem, ring-of, pow-is}
+use Rattle.field.proofs.Elements.{els, nums-els, poly-nums}
 use Rattle.code.specs.Shape.{size, groups, group, slot-at, point-at, point}
 use Rattle.code.specs.Basis.{exponent}
 use Rattle.code.specs.Codeword.{value-from, value, symbol}
 use Rattle.code.specs.Laws.{Placed, Plain}
 use Rattle.code.specs.declared.Shape.{Shape}
-use Rattle.code.proofs.Elements.{els, nums-els, poly-nums}
 use Rattle.code.proofs.Places.{size-least, group-slot-at, member-slot-at}
 use Rattle.code.proofs.Points.{locator, locator-is, group-constant, locator-power}
 use Rattle.code.proofs.Codewords.{Message-is}

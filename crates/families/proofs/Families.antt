@@ -6,7 +6,7 @@ use Prim.Native.Nat.{ℕ, zero, suc, _+_, _*_, _-_, _%_, _≤_}
 use native.Mathlib.Omega.{arith}
 use borrow.Author.Tests.{eq-eqb}
 use lib.Dec.{leb, eqb, le→leb}
-use Rattle.algebra.proofs.Sequence.{so, yes-true, and-both}
+use Rattle.algebra.proofs.Booleans.{so, yes-true, and-both}
 use Rattle.field.specs.Field.{q}
 use Rattle.code.specs.declared.Code.{Code}
 use Rattle.code.specs.declared.Shape.{Shape}

@@ -10,7 +10,7 @@ use Prim.Native.Nat.{ℕ, _+_, _*_, _-_, _%_, _≤_}
 use native.Mathlib.Omega.{arith}
 use borrow.Author.Tests.{eq-eqb}
 use lib.Dec.{T, leb, eqb, eqb→eq, leb→le}
-use Rattle.algebra.proofs.Sequence.{so, yes-true, and-left, and-right}
+use Rattle.algebra.proofs.Booleans.{so, yes-true, and-left, and-right}
 use Rattle.field.specs.Field.{q}
 use Rattle.code.specs.declared.Code.{Code}
 use Rattle.code.specs.declared.Shape.{Shape}

@@ -11,8 +11,8 @@ use native.Mathlib.Decide.{decLt}
 use native.Mathlib.Omega.{arith}
 use lib.Dec.{eqb}
 use Rattle.algebra.specs.Sequence.{count}
-use Rattle.algebra.proofs.Sequence.{Same, same, other, same?, count-same}
-use Rattle.algebra.proofs.Counting.{count-zero, count-mono}
+use Rattle.algebra.proofs.Equality.{Same, same, other, same?}
+use Rattle.algebra.proofs.Counting.{count-zero, count-mono, count-same}
 use Rattle.code.specs.Search.{nth-from, nth}
 
 pub record Nth (t : ℕ → Bool) (n m x : ℕ) : Type 0 where

@@ -13,19 +13,19 @@ use Rattle.algebra.specs.Ring.{Ring, pow}
 use Rattle.algebra.specs.Polynomial.{Poly}
 use Rattle.algebra.specs.EvaluationCode.{EvaluationCode, symbol-at}
 use Rattle.algebra.proofs.Ring.{sub-self, nil-mul}
-use Rattle.algebra.proofs.Sequence.{so}
+use Rattle.algebra.proofs.Booleans.{so}
 use Rattle.algebra.proofs.Polynomial.{poly-more, poly-scale}
 use Rattle.algebra.proofs.Triangular.{triangular-code, symbol-triangular}
 use Rattle.algebra.proofs.Monic.{Monic}
 use Rattle.algebra.proofs.Blocks.{monic-power, monic-poly}
 use Rattle.algebra.proofs.Locality.{raised}
 use Rattle.field.proofs.Elem.{Elem, ring-of, field-of}
+use Rattle.field.proofs.Elements.{els}
 use Rattle.code.specs.declared.Shape.{Shape}
 use Rattle.code.specs.Shape.{size, groups, room, missing, whole, wired, group, point}
 use Rattle.code.specs.Basis.{exponent, lead, whole-basis, short-basis, basis, degree}
 use Rattle.code.specs.Codeword.{value-from, value, symbol}
 use Rattle.code.specs.Laws.{Placed, Polynomial, On-group, Family}
-use Rattle.code.proofs.Elements.{els}
 use Rattle.code.proofs.Places.{size-least, groups-least, room-less}
 use Rattle.code.proofs.Points.{locator, locator-is, locators-differ, group-constant}
 use Rattle.code.proofs.Codewords.{Message-is}

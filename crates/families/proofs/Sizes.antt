@@ -8,7 +8,8 @@ use native.Mathlib.Omega.{arith}
 use borrow.Author.Tests.{eq-eqb}
 use lib.Dec.{T, leb, eqb, eqb→eq, leb→le}
 use Rattle.algebra.specs.Sequence.{count, every}
-use Rattle.algebra.proofs.Sequence.{and-left, and-right, every-at}
+use Rattle.algebra.proofs.Booleans.{and-left, and-right}
+use Rattle.algebra.proofs.Every.{every-at}
 use Rattle.field.specs.Field.{q}
 use Rattle.code.specs.Question.{ask}
 use Rattle.code.specs.Basis.{free}

@@ -11,7 +11,8 @@ use borrow.Author.Tests.{ne-eqb, eq-eqb}
 use lib.Arith.{digits-div}
 use lib.Dec.{ltb, ltb→lt}
 use Rattle.algebra.specs.Sequence.{count}
-use Rattle.algebra.proofs.Sequence.{so, and-left, count-most}
+use Rattle.algebra.proofs.Booleans.{so, and-left}
+use Rattle.algebra.proofs.Counting.{count-most}
 use Rattle.field.specs.Field.{q}
 use Rattle.field.proofs.Laws.{laws}
 use Rattle.code.specs.declared.Shape.{Shape}

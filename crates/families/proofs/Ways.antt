@@ -14,7 +14,8 @@ use native.Mathlib.Omega.{arith}
 use lib.Arith.{digits-mod}
 use lib.Dec.{ltb}
 use Rattle.algebra.specs.Sequence.{In}
-use Rattle.algebra.proofs.Sequence.{count-same, tabulate-same}
+use Rattle.algebra.proofs.Tabulate.{tabulate-same}
+use Rattle.algebra.proofs.Counting.{count-same}
 use Rattle.field.specs.Field.{q, γ, plus, times, power}
 use Rattle.code.specs.Shape.{groups, wired, group, member, point-at, point, mates}
 use Rattle.code.specs.Basis.{free, basis}

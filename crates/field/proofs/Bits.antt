@@ -3,11 +3,11 @@
 --   bits-none, bits-more, bits-all    the sum of the bits so far, and the product of what is left
 use mathlib.Core.Path.{_≡_, refl, sym, ap, ap₂, _∙_}
 use Prim.Native.Nat.{ℕ, zero, suc, _+_, _*_, _/_, _%_, _^_, _<_}
-use native.Mathlib.Nat.{pow-suc, pow-zero, div-one, div-div-eq-div-mul, zero-mul, one-mul}
+use native.Mathlib.Nat.{pow-suc, div-one, div-div-eq-div-mul, zero-mul, one-mul}
 use native.Mathlib.Omega.{arith}
-use Rattle.field.specs.Field.{xor-from, doubled, times-from}
+use Rattle.field.specs.Field.{doubled, pick, times-from}
 use Rattle.field.proofs.Xor.{xor-assoc}
-use Rattle.field.proofs.Byte.{_⊕_, ⊕-zero, zero-⊕, pick, times-step, times-below}
+use Rattle.field.proofs.Byte.{_⊕_, ⊕-zero, zero-⊕, times-step, times-below}
 
 bit-times : (n a : ℕ) → n < 2 → n * a ≡ pick n a
 bit-times zero a h = zero-mul a

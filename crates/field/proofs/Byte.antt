@@ -6,9 +6,9 @@ use Prim.Native.Nat.{ℕ, zero, suc, _+_, _*_, _-_, _/_, _%_, _<_}
 use native.Mathlib.Nat.{mod-lt, add-mod}
 use native.Mathlib.Omega.{arith}
 use lib.Dec.{T, ltb, eqb, eqb→eq, ltb→lt, lit<}
-use Rattle.field.specs.Field.{xor-from, doubled, times-from}
+use Rattle.field.specs.Field.{xor-from, doubled, pick, times-from}
 use Rattle.algebra.specs.Sequence.{every}
-use Rattle.algebra.proofs.Sequence.{every-at}
+use Rattle.algebra.proofs.Every.{every-at}
 use Rattle.field.proofs.Xor.{xor-half, xor-bit, xor-comm, xor-assoc, xor-self, xor-below, xor-zero}
 
 infixl 60 _⊕_
@@ -31,9 +31,6 @@ pub interchange : (a b c d : ℕ) → (a ⊕ b) ⊕ (c ⊕ d) ≡ (a ⊕ c) ⊕ 
 interchange a b c d = xor-assoc 8 a b (c ⊕ d) ∙ ap (λ n. a ⊕ n) (left-comm b c d) ∙ sym (xor-assoc 8 a c (b ⊕ d))
 
 -- a bit's choice
-abbrev pub pick : ℕ → ℕ → ℕ
-pick n a = cond (eqb n 1) a 0
-
 pick-xor : (n m a : ℕ) → n < 2 → m < 2 → a < 256 → pick ((n + m) % 2) a ≡ pick n a ⊕ pick m a
 pick-xor zero zero a h l b = unfold xor-from in refl
 pick-xor zero (suc zero) a h l b = sym (zero-⊕ b)

@@ -6,7 +6,7 @@ use native.Mathlib.Omega.{arith}
 use lib.Dec.{T, eqb, eqb→eq}
 use lib.Bits.{bitXor}
 use Rattle.algebra.specs.Sequence.{every}
-use Rattle.algebra.proofs.Sequence.{every-at}
+use Rattle.algebra.proofs.Every.{every-at}
 use Rattle.field.specs.Field.{xor-from, doubled}
 use Rattle.field.proofs.Xor.{xor-is}
 

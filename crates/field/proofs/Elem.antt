@@ -1,9 +1,11 @@
 -- The numbers below q as a field: both fields are instances of the abstract one. Assumes nothing.
 --   Elem f, ring-of f, field-of f    the elements, and their ring and field
 --   el f n                           a number as an element: itself where it is below q
---   zero-below, el-zero              0 as an element
+--   zero-below, el-zero, zero-of     0 as an element, and back
+--   one-not-zero, minus-one-is       1 and -1
+--   times-zero, zero-times, zero-plus, plus-times-zero    0 on numbers
 --   gen f                            the generator γ
---   pow-is, power-below, whole       powers
+--   pow-is, power-below, gen-whole   powers
 use mathlib.Core.Path.{_≡_, refl, sym, ap, _∙_}
 use mathlib.Core.Logic.{_≢_}
 use mathlib.Core.HLevel.{Σ-prop-path, Σ-prop-discrete}
@@ -14,7 +16,7 @@ use native.Mathlib.Decide.{ℕ-discrete}
 use native.Mathlib.Omega.{arith}
 use Rattle.field.specs.Field.{q, γ, plus, minus, times, power, inverse}
 use Rattle.algebra.specs.Ring.{Ring, Field, pow}
-use Rattle.algebra.proofs.Ring.{pow-mul, pow-unit}
+use Rattle.algebra.proofs.Ring.{pow-mul, pow-unit, mul-nil, nil-mul, nil-add}
 use Rattle.field.proofs.Generator.{last-test, power-of}
 use Rattle.field.proofs.Laws.{laws}
 
@@ -65,9 +67,9 @@ module _ (f : ℕ) where
   unfoldable pub gen : Elem f
   gen = (γ, gamma-below)
 
-  pub whole : pow (ring-of f) gen (q f - 1) ≡ 𝟙
+  pub gen-whole : pow (ring-of f) gen (q f - 1) ≡ 𝟙
   unfolding gen
-  whole = same f _ _ (pow-is gen (q f - 1) ∙ last-test f)
+  gen-whole = same f _ _ (pow-is gen (q f - 1) ∙ last-test f)
 
   pub inverse-below : (a : ℕ) → a < q f → inverse f a < q f
   unfolding inverse
@@ -86,7 +88,7 @@ module _ (f : ℕ) where
       let i = power-of f (x .0) (x .1) (λ e. h (same f x 𝟘 e)) in
       let p : x ≡ pow (ring-of f) gen (i .0) = same f _ _ (sym (pow-is gen (i .0) ∙ i .1)) in
       rw p (pow-mul (ring-of f) gen (i .0) (q f - 1) ∙ ap (λ n. pow (ring-of f) gen n) (mul-comm (i .0) (q f - 1))
-      ∙ sym (pow-mul (ring-of f) gen (q f - 1) (i .0)) ∙ ap (λ y. pow (ring-of f) y (i .0)) whole ∙ pow-unit (ring-of f) (i .0))
+      ∙ sym (pow-mul (ring-of f) gen (q f - 1) (i .0)) ∙ ap (λ y. pow (ring-of f) y (i .0)) gen-whole ∙ pow-unit (ring-of f) (i .0))
 
   pub mul-inv : (x : Elem f) → x ≢ 𝟘 → x ⊗ inv x ≡ 𝟙
   unfolding pow
@@ -112,6 +114,28 @@ module _ (f : ℕ) where
 
   pub el-zero : el 0 ≡ 𝟘
   el-zero = same f _ _ (el-is 0 zero-below)
+
+  pub zero-of : (n : ℕ) → n < q f → el n ≡ 𝟘 → n ≡ 0
+  zero-of n h e = sym (el-is n h) ∙ ap (λ x. x .0) e
+
+  pub one-not-zero : 𝟙 ≢ 𝟘
+  one-not-zero e = let z : _≡_ {A = ℕ} 1 0 = ap (λ x. x .0) e in omega arith
+
+  pub minus-one-is : el (minus f 0 1) ≡ ring-of f .sub 𝟘 𝟙
+  minus-one-is = same f _ _ (el-is (minus f 0 1) (laws f .minus-below 0 1))
+
+  -- 0 on numbers
+  pub times-zero : (k : ℕ) → k < q f → times f k 0 ≡ 0
+  times-zero k h = ap (λ x. x .0) (mul-nil (ring-of f) (k, h))
+
+  pub zero-times : (k : ℕ) → k < q f → times f 0 k ≡ 0
+  zero-times k h = ap (λ x. x .0) (nil-mul (ring-of f) (k, h))
+
+  pub zero-plus : (a : ℕ) → a < q f → plus f 0 a ≡ a
+  zero-plus a h = ap (λ x. x .0) (nil-add (ring-of f) (a, h))
+
+  pub plus-times-zero : (a k : ℕ) → a < q f → k < q f → plus f a (times f k 0) ≡ a
+  plus-times-zero a k h l = ap (plus f a) (times-zero k l) ∙ laws f .plus-zero a h
 
   abbrev pub field-of : Field
   field-of = record { ring = ring-of f; inv = inv; mul-inv = mul-inv }

@@ -14,7 +14,8 @@ use lib.Dec.{T, eqb, eqb→eq, ltb, ltb→lt}
 use lib.ListN.{getD}
 use Rattle.field.specs.Field.{q, γ, times, power, xor-from, times-from, doubled}
 use Rattle.algebra.specs.Sequence.{every}
-use Rattle.algebra.proofs.Sequence.{every-at, and-left, and-right}
+use Rattle.algebra.proofs.Booleans.{and-left, and-right}
+use Rattle.algebra.proofs.Every.{every-at}
 
 unfoldable pub powers-from : (f n x : ℕ) → List ℕ
 powers-from f zero x = []

@@ -4,6 +4,7 @@ pub mod Mod
 pub mod Laws
 pub mod Generator
 pub mod Elem
+pub mod Elements
 pub mod Tables
 pub mod Doubling
 pub mod Bits

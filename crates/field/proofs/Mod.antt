@@ -5,7 +5,7 @@ use native.Mathlib.Nat.{mod-lt, mod-eq-of-lt, add-comm, add-assoc, mul-comm, mul
 use native.Mathlib.Omega.{arith}
 use lib.Dec.{T, eqb, eqb→eq, lit<}
 use Rattle.algebra.specs.Sequence.{every}
-use Rattle.algebra.proofs.Sequence.{every-at}
+use Rattle.algebra.proofs.Every.{every-at}
 
 pub mod-below : (n : ℕ) → n % 13 < 13
 mod-below n = mod-lt n (lit< tt)

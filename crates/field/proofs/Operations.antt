@@ -10,12 +10,12 @@ use native.Mathlib.Nat.{div-add-mod', mul-comm, mul-le-mul-left, mod-lt}
 use native.Mathlib.Omega.{arith}
 use lib.Dec.{lit<}
 use lib.Bits.{bitXor}
-use Rattle.algebra.specs.Ring.{Ring, pow}
-use Rattle.algebra.proofs.Ring.{pow-add, pow-mul, pow-unit, mul-nil, nil-mul, unit-mul}
+use Rattle.algebra.specs.Ring.{pow}
+use Rattle.algebra.proofs.Ring.{pow-add, pow-mul, pow-unit}
 use Rattle.field.specs.Field.{q, γ, plus, minus, times, power, inverse, xor-from, times-from, doubled}
 use Rattle.field.proofs.Xor.{xor-is}
 use Rattle.field.proofs.Laws.{laws}
-use Rattle.field.proofs.Elem.{Elem, same, ring-of, pow-is, gen, whole, power-below, gamma-below, mul-inv, inv}
+use Rattle.field.proofs.Elem.{ring-of, pow-is, gen, gen-whole, power-below, gamma-below, times-zero, zero-times}
 
 pub q-13 : (f : ℕ) → f ≡ 0 → 13 ≡ q f
 unfolding q
@@ -76,15 +76,15 @@ module _ (f : ℕ) where
       ∙ ap (λ x. times f x (power f γ (e % w)))
       (sym (gen-pow (e / w * w))
       ∙ ap (λ x. x .0)
-      (ap (λ n. pow R (gen f) n) (mul-comm (e / w) w) ∙ sym (pow-mul R (gen f) w (e / w)) ∙ ap (λ x. pow R x (e / w)) (whole f) ∙ pow-unit R (e / w)))
+      (ap (λ n. pow R (gen f) n) (mul-comm (e / w) w) ∙ sym (pow-mul R (gen f) w (e / w)) ∙ ap (λ x. pow R x (e / w)) (gen-whole f) ∙ pow-unit R (e / w)))
       ∙ laws f .times-comm 1 (power f γ (e % w)) (omega (arith, laws f .two-below)) (power-below f γ (e % w) (gamma-below f))
       ∙ laws f .times-one (power f γ (e % w)) (power-below f γ (e % w) (gamma-below f)))
 
 pub times-nil-left : (f a b : ℕ) → f ≢ 0 → b < 256 → a ≡ 0 → 0 ≡ times f a b
-times-nil-left f a b n h e = rw e (sym (ap (λ x. x .0) (nil-mul (ring-of f) (b, rw (← q-256 f n) h))))
+times-nil-left f a b n h e = rw e (sym (zero-times f b (rw (← q-256 f n) h)))
 
 pub times-nil-right : (f a b : ℕ) → f ≢ 0 → a < 256 → b ≡ 0 → 0 ≡ times f a b
-times-nil-right f a b n h e = rw e (sym (ap (λ x. x .0) (mul-nil (ring-of f) (a, rw (← q-256 f n) h))))
+times-nil-right f a b n h e = rw e (sym (times-zero f a (rw (← q-256 f n) h)))
 
 pub times-logs : (f a b i j : ℕ) → f ≢ 0 → power 1 γ i ≡ a → power 1 γ j ≡ b → power 1 γ ((i + j) % 255) ≡ times f a b
 times-logs f a b i j n p s =

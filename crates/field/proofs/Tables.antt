@@ -6,7 +6,7 @@
 --   logs         a table of logarithms, tested against a table of powers
 use mathlib.Core.Path.{_≡_, refl, sym, ap, _∙_}
 use mathlib.Core.Logic.{_≢_}
-use mathlib.Core.Bool.{Bool, true, false, _&&_, _||_}
+use mathlib.Core.Bool.{Bool, _&&_, _||_}
 use mathlib.Core.List.{List}
 use Prim.Native.Nat.{ℕ, zero, suc, _-_, _<_}
 use native.Mathlib.Omega.{arith}
@@ -14,10 +14,10 @@ use lib.Dec.{T, ltb, ltb→lt, eqb, eqb→eq}
 use lib.ListN.{length}
 use borrow.Author.Tests.{ne-eqb}
 use Rattle.algebra.specs.Sequence.{at, every}
-use Rattle.algebra.proofs.Sequence.{and-left, and-right, every-at}
+use Rattle.algebra.proofs.Booleans.{and-left, and-right}
+use Rattle.algebra.proofs.Every.{every-at}
 use Rattle.field.specs.Field.{q, γ, times, power}
 use Rattle.field.specs.Table.{Powers, Doubles, Logs}
-use Rattle.field.proofs.Laws.{laws}
 
 unfoldable pub next-is : (f : ℕ) → List ℕ → ℕ → Bool
 next-is f t e = eqb (at t (suc e)) (times f γ (at t e))

@@ -31,10 +31,14 @@ minus (suc f) a b = xor-from 8 a b
 unfoldable pub doubled : ℕ → ℕ
 doubled a = cond (ltb a 128) (2 * a) (xor-from 8 (2 * a - 256) 29)
 
+-- x where the bit is 1, and 0 where it is not
+abbrev pub pick : (bit x : ℕ) → ℕ
+pick n x = cond (eqb n 1) x 0
+
 -- the sum of a times X to the power i over the bits i of b
 unfoldable pub times-from : (fuel a b : ℕ) → ℕ
 times-from zero a b = 0
-times-from (suc k) a b = xor-from 8 (cond (eqb (b % 2) 1) a 0) (times-from k (doubled a) (b / 2))
+times-from (suc k) a b = xor-from 8 (pick (b % 2) a) (times-from k (doubled a) (b / 2))
 
 unfoldable pub times : (field a b : ℕ) → ℕ
 times zero a b = a * b % 13

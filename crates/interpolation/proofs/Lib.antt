@@ -1,4 +1,5 @@
-pub mod Rows
+pub mod Shifting
+pub mod Marks
 pub mod Values
 pub mod Step
 pub mod Settling

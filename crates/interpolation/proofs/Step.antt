@@ -1,48 +1,33 @@
 -- One place more in Newton's interpolation: lost, or taken. Assumes nothing.
---   skipped     a lost place changes nothing
---   stepped     a place is taken
---   rooms-kept  the rows keep their lengths
-use mathlib.Core.Path.{_≡_, refl, sym, ap, ap₂, _∙_}
+--   place-skipped  a lost place changes nothing
+--   place-taken    a place is taken
+--   rooms-kept     the rows keep their lengths
+use mathlib.Core.Path.{_≡_, sym, ap, ap₂, _∙_}
 use mathlib.Core.Logic.{_≢_}
-use mathlib.Core.Bool.{Bool, true, false, not}
 use mathlib.Core.List.{List}
 use Prim.Native.Nat.{ℕ, zero, suc, _+_, _≤_, _<_}
 use native.Mathlib.Decide.{ℕ-discrete, decLt}
 use native.Mathlib.Omega.{arith}
-use lib.Dec.{eqb}
 use lib.ListN.{length}
 use Rattle.algebra.specs.Sequence.{at}
-use Rattle.algebra.proofs.Sequence.{Same, same as alike, other, same?}
+use Rattle.algebra.specs.Writing.{Written}
 use Rattle.algebra.proofs.Counting.{count-yes, count-no}
 use Rattle.algebra.proofs.Ring.{sub-self}
 use Rattle.algebra.proofs.Newton.{rest-kept, quotient, factor-not-nil}
 use Rattle.field.specs.Field.{q, plus, minus, times, inverse}
 use Rattle.field.specs.Polynomial.{poly}
 use Rattle.field.proofs.Laws.{laws}
-use Rattle.field.proofs.Elem.{Elem, same, ring-of, inv, field-of, zero-below}
-use Rattle.interpolation.specs.Newton.{Written, Multiplied, kept, Points, Rooms, Newton}
-use Rattle.interpolation.proofs.Values.{times-zero, zero-times, zero-plus, plus-times-zero, poly-below, poly-add-scaled, poly-linear}
-
--- the test of a place
-pub lost-not : (ms : List ℕ) (p : ℕ) → at ms p ≡ 1 → kept ms p ≡ false
-lost-not ms p e = go (eqb (at ms p) 1) (same? (at ms p) 1)
-  where
-    go : (b : Bool) → Same (at ms p) 1 b → not b ≡ false
-    go true s = refl
-    go false (other n) = absurd (n e)
-
-pub kept-is : (ms : List ℕ) (p : ℕ) → at ms p ≢ 1 → kept ms p ≡ true
-kept-is ms p h = go (eqb (at ms p) 1) (same? (at ms p) 1)
-  where
-    go : (b : Bool) → Same (at ms p) 1 b → not b ≡ true
-    go true (alike e) = absurd (h e)
-    go false s = refl
+use Rattle.field.proofs.Elem.{Elem, same, ring-of, inv, field-of, zero-below, times-zero, zero-times, zero-plus, plus-times-zero}
+use Rattle.field.proofs.Elements.{poly-below}
+use Rattle.interpolation.specs.Step.{Multiplied, kept, Nodes, Rooms, Newton}
+use Rattle.interpolation.proofs.Marks.{kept-no, kept-yes}
+use Rattle.interpolation.proofs.Values.{poly-add-scaled, poly-times-linear}
 
 module _ (f n : ℕ) (xs ws ms : List ℕ) (i c : ℕ) where
-  pub skipped : (cs ns vs rs : List ℕ) → at ms i ≡ 1 → Newton f n xs ws ms i c cs ns vs rs → Newton f n xs ws ms (i + 1) c cs ns vs rs
-  skipped cs ns vs rs lost N =
+  pub place-skipped : (cs ns vs rs : List ℕ) → at ms i ≡ 1 → Newton f n xs ws ms i c cs ns vs rs → Newton f n xs ws ms (i + 1) c cs ns vs rs
+  place-skipped cs ns vs rs lost N =
       record {
-        taken = N .taken ∙ count-no (kept ms) i (lost-not ms i lost);
+        taken = N .taken ∙ count-no (kept ms) i (kept-no ms i lost);
         cs-below = N .cs-below;
         cs-few = N .cs-few;
         cs-passes = λ p h k. N .cs-passes p (below p h k) k;
@@ -63,7 +48,7 @@ module _ (f n : ℕ) (xs ws ms : List ℕ) (i c : ℕ) where
           go (no e) = omega arith
 
   -- k is the factor, and places from s up to e, coefficients below w are worked on
-  module _ (cs ns vs rs cs′ ns′ vs′ rs′ : List ℕ) (k v h w s e : ℕ) (P : Points f n xs) (S : Rooms cs ns vs rs)
+  module _ (cs ns vs rs cs′ ns′ vs′ rs′ : List ℕ) (k v h w s e : ℕ) (P : Nodes f n xs) (S : Rooms cs ns vs rs)
       (inside : i < n) (here : at ms i ≢ 1) (wide : c + 1 < w) (start : s ≤ i) (end : n < e)
       (v-is : v ≡ inverse f (at vs i)) (k-is : k ≡ times f (at rs i) v) (h-is : h ≡ minus f 0 k)
       (A : Written (λ p. plus f (at cs p) (times f k (at ns p))) 0 w cs cs′)
@@ -120,7 +105,7 @@ module _ (f n : ℕ) (xs ws ms : List ℕ) (i c : ℕ) where
         poly-add-scaled f k x k-below hx cs′ cs ns (A .size ∙ S .cs-size) (S .cs-size) (S .ns-size) (N .cs-below) (N .ns-below) cs-at
 
     ns-value : (x : ℕ) → x < q f → poly f ns′ x ≡ times f (minus f x (at xs i)) (poly f ns x)
-    ns-value x hx = poly-linear f (at xs i) x y-below hx ns′ ns (D .size ∙ S .ns-size) (S .ns-size) ns′-below (N .ns-below) ns-first ns-next
+    ns-value x hx = poly-times-linear f (at xs i) x y-below hx ns′ ns (D .size ∙ S .ns-size) (S .ns-size) ns′-below (N .ns-below) ns-first ns-next
 
     -- at place i
     vs-i : at vs i ≡ poly f ns (at xs i)
@@ -192,10 +177,10 @@ module _ (f n : ℕ) (xs ws ms : List ℕ) (i c : ℕ) where
           (poly f cs (at xs p), poly-below f cs (at xs p)))
           ∙ N .rs-left p (omega arith) l
 
-    pub stepped : Newton f n xs ws ms (i + 1) (c + 1) cs′ ns′ vs′ rs′
-    stepped =
+    pub place-taken : Newton f n xs ws ms (i + 1) (c + 1) cs′ ns′ vs′ rs′
+    place-taken =
         record {
-          taken = ap (λ z. z + 1) (N .taken) ∙ count-yes (kept ms) i (kept-is ms i here);
+          taken = ap (λ z. z + 1) (N .taken) ∙ count-yes (kept ms) i (kept-yes ms i here);
           cs-below = λ m. rw (cs-at m) (laws f .plus-below (at cs m) (times f k (at ns m)));
           cs-few = λ m b. cs-at m ∙ both-zero k (at cs m) (at ns m) k-below (N .cs-few m (omega arith)) (N .ns-few m (omega arith));
           cs-passes = passes;

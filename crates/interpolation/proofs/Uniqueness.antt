@@ -1,38 +1,32 @@
 -- What the settled polynomial is: it passes where nothing is left, and no other of as many coefficients passes. Assumes nothing.
---   kept-enough     how many places are not lost
 --   interpolated    the settled polynomial and the comparison answer as asked
 use mathlib.Core.Path.{_≡_, sym, ap, _∙_}
 use mathlib.Core.Logic.{_≢_}
-use mathlib.Core.Bool.{Bool, true, false, not, _||_}
+use mathlib.Core.Bool.{Bool, true, false, not}
 use mathlib.Core.List.{List}
-use Prim.Native.Nat.{ℕ, _+_, _≤_, _<_}
+use Prim.Native.Nat.{ℕ, _≤_, _<_}
 use native.Mathlib.Decide.{decLt}
 use native.Mathlib.Omega.{arith}
 use lib.Dec.{T, eqb}
 use lib.ListN.{length}
-use Rattle.algebra.specs.Sequence.{at, count, all-below}
-use Rattle.algebra.proofs.Sequence.{Same, other, same?, all-below-any, count-split, count-most}
+use Rattle.algebra.specs.Sequence.{at, all-below}
+use Rattle.algebra.proofs.Equality.{Same, other, same?}
+use Rattle.algebra.proofs.Counting.{count-most}
+use Rattle.algebra.proofs.Below.{all-below-any}
 use Rattle.algebra.proofs.Ring.{add-cancel}
-use Rattle.algebra.proofs.Coefficients.{value, value-same, value-short, unique-counted}
+use Rattle.algebra.proofs.Coefficients.{front-value, value-same, value-short, unique-counted}
 use Rattle.field.specs.Field.{q, plus}
 use Rattle.field.specs.Polynomial.{poly}
-use Rattle.field.proofs.Elem.{Elem, same, ring-of, field-of, el, el-is, zero-below, el-zero}
-use Rattle.interpolation.specs.Interpolated.{Passes, Interpolated}
-use Rattle.interpolation.specs.Newton.{kept, symbol, Points, Settled, Agreed}
-use Rattle.interpolation.proofs.Rows.{symbol-kept}
-use Rattle.interpolation.proofs.Values.{zero-plus, coef, poly-below, poly-value}
+use Rattle.field.proofs.Elem.{Elem, same, ring-of, field-of, el, el-is, zero-below, el-zero, zero-plus}
+use Rattle.field.proofs.Elements.{el-at, poly-below, poly-value}
+use Rattle.interpolation.specs.Interpolated.{masked, Passes, Interpolated}
+use Rattle.interpolation.specs.Step.{kept, Nodes, Settled, Agreed}
+use Rattle.interpolation.proofs.Marks.{masked-kept}
 
-pub kept-enough : (ms : List ℕ) (n most : ℕ) → most + count (λ p. eqb (at ms p) 1) n ≤ n → most ≤ count (kept ms) n
-kept-enough ms n most h = omega (arith, count-split (λ p. eqb (at ms p) 1) (kept ms) n (λ i b. go (eqb (at ms i) 1)))
-  where
-    go : (b : Bool) → T (b || not b)
-    go true = tt
-    go false = tt
-
-module _ (f n most : ℕ) (xs ws ms us cs rs : List ℕ) (i : ℕ) (small : n ≤ 255) (P : Points f n xs)
-    (W : (p : ℕ) → p < n → at us p ≡ symbol (at ws p) (at ms p)) (S : Settled f n most xs us ms i cs rs) where
+module _ (f n most : ℕ) (xs ws ms us cs rs : List ℕ) (i : ℕ) (small : n ≤ 255) (P : Nodes f n xs)
+    (W : (p : ℕ) → p < n → at us p ≡ masked (at ws p) (at ms p)) (S : Settled f n most xs us ms i cs rs) where
   wanted : (p : ℕ) → p < n → at ms p ≢ 1 → at us p ≡ at ws p
-  wanted p h k = W p h ∙ symbol-kept (at ws p) (at ms p) k
+  wanted p h k = W p h ∙ masked-kept (at ws p) (at ms p) k
 
   through : ((p : ℕ) → i ≤ p → p < n → at ms p ≢ 1 → at rs p ≡ 0) → Passes f n xs ws ms cs
   through none p h k = go (decLt p i)
@@ -50,16 +44,16 @@ module _ (f n most : ℕ) (xs ws ms us cs rs : List ℕ) (i : ℕ) (small : n �
     ds-below : (m : ℕ) → at ds m < q f
     ds-below = all-below-any (q f) ds (zero-below f) t
 
-    ds-value : (x : ℕ) (h : x < q f) → poly f ds x ≡ value (ring-of f) (coef f ds) most (x, h) .0
+    ds-value : (x : ℕ) (h : x < q f) → poly f ds x ≡ front-value (ring-of f) (el-at f ds) most (x, h) .0
     ds-value x h = poly-value f ds most x h (omega arith) ds-below
 
-    cs-value : (x : ℕ) (h : x < q f) → poly f cs x ≡ value (ring-of f) (coef f cs) most (x, h) .0
+    cs-value : (x : ℕ) (h : x < q f) → poly f cs x ≡ front-value (ring-of f) (el-at f cs) most (x, h) .0
     cs-value x h =
         poly-value f cs 256 x h (omega (arith, S .size)) (S .below)
-        ∙ ap (λ y. y .0) (value-short (ring-of f) (coef f cs) most 256 (x, h) most-small (λ m b k. ap (el f) (S .few m b) ∙ el-zero f))
+        ∙ ap (λ y. y .0) (value-short (ring-of f) (el-at f cs) most 256 (x, h) most-small (λ m b k. ap (el f) (S .few m b) ∙ el-zero f))
 
     agree : (p : ℕ) → p < i → T (kept ms p)
-        → value (ring-of f) (coef f ds) most (el f (at xs p)) ≡ value (ring-of f) (coef f cs) most (el f (at xs p))
+        → front-value (ring-of f) (el-at f ds) most (el f (at xs p)) ≡ front-value (ring-of f) (el-at f cs) most (el f (at xs p))
     agree p h k =
         let b : p < n = omega (arith, S .inside) in
         let x : Elem f = (at xs p, P .below p b) in
@@ -74,9 +68,9 @@ module _ (f n most : ℕ) (xs ws ms us cs rs : List ℕ) (i : ℕ) (small : n �
             go true s k = k
             go false (other h) k = h e
 
-    equal-coefs : (m : ℕ) → m < most → coef f ds m ≡ coef f cs m
+    equal-coefs : (m : ℕ) → m < most → el-at f ds m ≡ el-at f cs m
     equal-coefs =
-        unique-counted (field-of f) (λ p. el f (at xs p)) (kept ms) i (coef f ds) (coef f cs) most
+        unique-counted (field-of f) (λ p. el f (at xs p)) (kept ms) i (el-at f ds) (el-at f cs) most
         (λ a b h g e. P .differ a b (omega (arith, S .inside)) (omega (arith, S .inside))
         (sym (el-is f (at xs a) (P .below a (omega (arith, S .inside)))) ∙ ap (λ y. y .0) e ∙ el-is f (at xs b) (P .below b (omega (arith, S .inside)))))
         agree (omega (arith, S .taken))
@@ -85,7 +79,7 @@ module _ (f n most : ℕ) (xs ws ms us cs rs : List ℕ) (i : ℕ) (small : n �
     equal m h = sym (el-is f (at ds m) (ds-below m)) ∙ ap (λ y. y .0) (equal-coefs m h) ∙ el-is f (at cs m) (S .below m)
 
     equal-values : (x : ℕ) → x < q f → poly f ds x ≡ poly f cs x
-    equal-values x h = ds-value x h ∙ ap (λ y. y .0) (value-same (ring-of f) (coef f ds) (coef f cs) most (x, h) equal-coefs) ∙ sym (cs-value x h)
+    equal-values x h = ds-value x h ∙ ap (λ y. y .0) (value-same (ring-of f) (el-at f ds) (el-at f cs) most (x, h) equal-coefs) ∙ sym (cs-value x h)
 
     none-left : (p : ℕ) → i ≤ p → p < n → at ms p ≢ 1 → at rs p ≡ 0
     none-left p b h k =

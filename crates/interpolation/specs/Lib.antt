@@ -1,2 +1,2 @@
 pub mod Interpolated
-pub mod Newton
+pub mod Step

@@ -6,10 +6,11 @@ ghost use Prim.Native.Nat.{ℕ, _+_, _≤_, _<_};
 ghost use lib.Dec.{eqb};
 ghost use lib.ListN.{length};
 ghost use Rattle.algebra.specs.Sequence.{at, count};
+ghost use Rattle.algebra.specs.Writing.{Written};
 ghost use Rattle.field.specs.Field.{q, plus, minus, times};
 ghost use Rattle.field.specs.Table.{Powers, Logs};
-ghost use Rattle.interpolation.specs.Interpolated.{Interpolated};
-ghost use Rattle.interpolation.specs.Newton.{Written, Shifted, Multiplied, kept, symbol, Points, Rooms, Newton, Settled, Agreed};
+ghost use Rattle.interpolation.specs.Interpolated.{masked, Interpolated};
+ghost use Rattle.interpolation.specs.Step.{Shifted, Multiplied, kept, Nodes, Rooms, Newton, Settled, Agreed};
 
 // The end of the block that place n is in.
 fn block_end(n: usize) -> usize
@@ -102,7 +103,7 @@ fn mul_linear(field: u32, basis: &mut [u8; 256], to: usize, y: u8)
 // The symbol of place p, 0 where it is lost: only a kept place need be in the word, so the mark is tested first.
 fn symbol_at(word: &[u8], marks: &[u8], p: usize) -> u8
     requires { ⌜ (p < length (now marks)) × (at (now marks) p ≢ 1 → p < length (now word)) ⌝ }
-    ensures { λ r. ⌜ r ≡ symbol (at (now (word .entry)) p) (at (now (marks .entry)) p) ⌝ }
+    ensures { λ r. ⌜ r ≡ masked (at (now (word .entry)) p) (at (now (marks .entry)) p) ⌝ }
 {
     if marks[p] == 1 {
         return 0;
@@ -113,7 +114,7 @@ fn symbol_at(word: &[u8], marks: &[u8], p: usize) -> u8
 // The symbols of the word, 0 where one is lost. A lost symbol is not read.
 pub fn load(word: &[u8], marks: &[u8], n: usize, rests: &mut [u8; 256])
     requires { ⌜ (length (now rests) ≡ 256) × (n ≤ 255) × (length (now word) ≡ n) × (length (now marks) ≡ n) ⌝ }
-    ensures { λ _. ⌜ Written (λ p. symbol (at (now (word .entry)) p) (at (now (marks .entry)) p)) 0 n (now (rests .entry)) (now (rests .exit)) ⌝ }
+    ensures { λ _. ⌜ Written (λ p. masked (at (now (word .entry)) p) (at (now (marks .entry)) p)) 0 n (now (rests .entry)) (now (rests .exit)) ⌝ }
 {
     let mut p: usize = 0;
     while p < n {
@@ -137,7 +138,7 @@ fn advance(
     powers: &[u8; 255],
     logs: &[u8; 256],
 ) -> usize
-    requires { ⌜ (n ≤ 255) × (i < n) × (c < 255) × (length (now marks) ≡ n) × Points field n (now points) × Rooms (now coefs) (now basis) (now values) (now rests) × Powers 1 (now powers) × Logs (now logs) ⌝ }
+    requires { ⌜ (n ≤ 255) × (i < n) × (c < 255) × (length (now marks) ≡ n) × Nodes field n (now points) × Rooms (now coefs) (now basis) (now values) (now rests) × Powers 1 (now powers) × Logs (now logs) ⌝ }
     ensures { λ r. ⌜ Rooms (now (coefs .exit)) (now (basis .exit)) (now (values .exit)) (now (rests .exit)) × ((wants : List ℕ)
         → Newton field n (now (points .entry)) wants (now (marks .entry)) i c (now (coefs .entry)) (now (basis .entry)) (now (values .entry)) (now (rests .entry))
         → Newton field n (now (points .entry)) wants (now (marks .entry)) (i + 1) r (now (coefs .exit)) (now (basis .exit)) (now (values .exit)) (now (rests .exit))) ⌝ }
@@ -171,7 +172,7 @@ fn settle(
     powers: &[u8; 255],
     logs: &[u8; 256],
 ) -> usize
-    requires { ⌜ (length (now coefs) ≡ 256) × ((m : ℕ) → at (now coefs) m ≡ 0) × (length (now rests) ≡ 256) × (n ≤ 255) × (length (now marks) ≡ n) × Points field n (now points) × ((p : ℕ) → p < n → at (now rests) p < q field)
+    requires { ⌜ (length (now coefs) ≡ 256) × ((m : ℕ) → at (now coefs) m ≡ 0) × (length (now rests) ≡ 256) × (n ≤ 255) × (length (now marks) ≡ n) × Nodes field n (now points) × ((p : ℕ) → p < n → at (now rests) p < q field)
         × (most ≤ count (kept (now marks)) n) × Powers 1 (now powers) × Logs (now logs) ⌝ }
     ensures { λ r. ⌜ Settled field n most (now (points .entry)) (now (rests .entry)) (now (marks .entry)) r (now (coefs .exit)) (now (rests .exit)) ⌝ }
 {

@@ -1,5 +1,2 @@
-pub mod Sum
-pub mod Products
-pub mod Rows
-pub mod Tiles
 pub mod Roots
+pub mod Widening

@@ -14,18 +14,17 @@ use native.Mathlib.Omega.{arith}
 use lib.Dec.{T, eqb, eqb→eq, lit<}
 use lib.Bits.{bitXor}
 use lib.ListN.{length, take}
-use Rattle.algebra.specs.Sequence.{at, tabulate, every}
-use Rattle.algebra.proofs.Sequence.{every-at, tabulate-same}
+use Rattle.algebra.specs.Sequence.{at, tabulate, every, column}
+use Rattle.algebra.proofs.Tabulate.{tabulate-same}
+use Rattle.algebra.proofs.Every.{every-at}
 use Rattle.field.specs.Field.{xor-from, doubled, times-from}
 use Rattle.field.specs.Polynomial.{dotted}
 use Rattle.field.proofs.Xor.{xor-is, xor-comm, xor-assoc}
 use Rattle.field.proofs.Byte.{_⊕_, ⊕-below, zero-⊕, double-below, one-times, times-below, times-left, times-right}
-use Rattle.code.specs.Repair.{column}
-use Rattle.kernel.specs.Columns.{Combined}
-use Rattle.kernel.specs.Pair.{Roots, root-sum}
-use Rattle.kernel.specs.Plan.{sum}
-use Rattle.kernel.proofs.Products.{dotted-sum}
-use Rattle.kernel.proofs.Sum.{sum-none, sum-more}
+use Rattle.tiles.specs.Columns.{Combined}
+use Rattle.kernel.specs.Step.{Roots, root-sum}
+use Rattle.tiles.proofs.Products.{dotted-sum}
+use Rattle.tiles.proofs.Sum.{sum-none, sum-more}
 
 -- the language's xor of what is a byte a
 xor-of : (x a b : ℕ) → x ≡ a → a < 256 → b < 256 → bitXor x b ≡ a ⊕ b

@@ -1,3 +1,1 @@
-pub mod Columns
-pub mod Plan
-pub mod Pair
+pub mod Step

@@ -12,7 +12,7 @@ use native.Mathlib.Omega.{arith}
 use borrow.Author.Tests.{eq-eqb, ne-eqb, lt-ltb, le-ltb}
 use lib.ListN.{length}
 use Rattle.algebra.specs.Sequence.{at}
-use Rattle.algebra.proofs.Sequence.{each-index}
+use Rattle.algebra.proofs.Each.{each-index}
 use Rattle.field.specs.Field.{q}
 use Rattle.code.specs.declared.Shape.{Shape}
 use Rattle.code.specs.Shape.{size, groups, wired, group, member, first, step, members, slot-at, mates}

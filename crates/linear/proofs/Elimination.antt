@@ -13,25 +13,25 @@ use lib.ListN.{length, set}
 use lib.Seq.{getD-set-same, getD-set-other}
 use Rattle.algebra.specs.Sequence.{at}
 use Rattle.algebra.specs.Equations as equations
-use Rattle.algebra.proofs.Ring.{add-cancel, mul-nil}
-use Rattle.algebra.proofs.Equations.{dot-cong, minus-one, residue-cong, residue-const, add-solves, echelon-insert, insert-solves, turn}
+use Rattle.algebra.proofs.Booleans.{differ}
+use Rattle.algebra.proofs.Strides.{row-step}
+use Rattle.algebra.proofs.Ring.{add-cancel}
+use Rattle.algebra.proofs.Equations.{dot-cong, minus-one, defect-cong, defect-const, add-solves, steps-insert, insert-solves, turn}
 use Rattle.field.specs.Field.{q, plus, minus, times, inverse}
 use Rattle.field.specs.Polynomial.{dotted}
 use Rattle.field.proofs.Laws.{laws}
-use Rattle.field.proofs.Elem.{Elem, same, ring-of, field-of, inv, el, el-is, zero-below, el-zero}
+use Rattle.field.proofs.Elem.{Elem, same, ring-of, field-of, inv, el, el-is, zero-below, el-zero, times-zero}
+use Rattle.field.proofs.Elements.{el-at}
 use Rattle.linear.specs.System.{Vector, entry, coefs, residue, Solved, Echelon, Inserted}
-use Rattle.linear.specs.Buffer.{Added, Ready, All-solved, Same, Stepped, Placed}
-use Rattle.linear.proofs.Rows.{row-step, row-others, row-put}
-use Rattle.linear.proofs.Elements.{Row, rows, vec, row-of, residue-is, residue-to, residue-of, dot-is, echelon-to, echelon-of, echelon-kept, residue-kept}
-
-pub differ : {A : Type 0} → true ≡ false → A
-differ e = absurd (let z : _≡_ {A = ℕ} 0 1 = cc (e) in omega arith)
+use Rattle.linear.specs.Step.{Added, Ready, All-solved, Same-solutions, Went-through, Went-through-all}
+use Rattle.linear.proofs.Rows.{row-others, row-put}
+use Rattle.linear.proofs.Elements.{Field-row, rows, row-of, residue-is, residue-to, residue-of, dot-is, echelon-to, echelon-of, echelon-kept, residue-kept}
 
 -- the rows of a buffer that is ready
-pub ready-row : (f k j : ℕ) (w : List ℕ) → Ready f k j w → (i : ℕ) → i ≤ k → Row f k w i
+pub ready-row : (f k j : ℕ) (w : List ℕ) → Ready f k j w → (i : ℕ) → i ≤ k → Field-row f k w i
 ready-row f k j w R i h = go (ℕ-discrete i k)
   where
-    go : Dec (i ≡ k) → Row f k w i
+    go : Dec (i ≡ k) → Field-row f k w i
     go (yes e) = rw e (record { room = R .echelon .room; below = R .below })
     go (no n) = row-of f k w (R .echelon) i (omega arith)
 
@@ -40,13 +40,13 @@ unzeroed f k j w R = record { echelon = R .echelon; below = R .below; zeros = λ
 
 -- one row operation between two rows
 module _ (f k : ℕ) (a b : List ℕ) (d s c : ℕ) (n : d ≢ s) (hd : d ≤ k) (hs : s ≤ k) (hc : c < q f)
-    (ra : (i : ℕ) → i ≤ k → Row f k a i) (rb : (i : ℕ) → i ≤ k → Row f k b i)
+    (ra : (i : ℕ) → i ≤ k → Field-row f k a i) (rb : (i : ℕ) → i ≤ k → Field-row f k b i)
     (others : (i m : ℕ) → i ≢ d → m ≤ k → entry k b i m ≡ entry k a i m)
     (put : (m : ℕ) → m ≤ k → entry k b d m ≡ plus f (entry k a d m) (times f c (entry k a s m))) where
   value-other : (i : ℕ) (ys : List ℕ) → i ≤ k → i ≢ d → Vector f k ys → residue f k b i ys ≡ residue f k a i ys
   value-other i ys h g v =
       sym (residue-is f k b i ys (rb i h) v)
-      ∙ ap (λ x. x .0) (residue-cong (ring-of f) k (rows f k b i) (rows f k a i) (vec f ys) (λ m l. ap (el f) (others i m g l)))
+      ∙ ap (λ x. x .0) (defect-cong (ring-of f) k (rows f k b i) (rows f k a i) (el-at f ys) (λ m l. ap (el f) (others i m g l)))
       ∙ residue-is f k a i ys (ra i h) v
 
   put-el : (m : ℕ) → m ≤ k → rows f k b d m ≡ ring-of f .add (rows f k a d m) (ring-of f .mul (c, hc) (rows f k a s m))
@@ -57,10 +57,10 @@ module _ (f k : ℕ) (a b : List ℕ) (d s c : ℕ) (n : d ≢ s) (hd : d ≤ k)
   value-kept : (ys : List ℕ) → Vector f k ys → residue f k a s ys ≡ 0 → residue f k b d ys ≡ residue f k a d ys
   value-kept ys v e =
       sym (residue-is f k b d ys (rb d hd) v)
-      ∙ ap (λ x. x .0) (add-solves (ring-of f) k (c, hc) (rows f k a d) (rows f k a s) (rows f k b d) (vec f ys) put-el (residue-to f k a s ys (ra s hs) v e))
+      ∙ ap (λ x. x .0) (add-solves (ring-of f) k (c, hc) (rows f k a d) (rows f k a s) (rows f k b d) (el-at f ys) put-el (residue-to f k a s ys (ra s hs) v e))
       ∙ residue-is f k a d ys (ra d hd) v
 
-  keeps : Same f k a b
+  keeps : Same-solutions f k a b
   keeps = record { on = on; back = back }
     where
       on : (ys : List ℕ) → Vector f k ys → All-solved f k a ys → All-solved f k b ys
@@ -81,7 +81,7 @@ module _ (f k : ℕ) (a b : List ℕ) (d s c : ℕ) (n : d ≢ s) (hd : d ≤ k)
           go (no p) = sym (value-other i ys h p v) ∙ F i h
 
 -- the newcomer is 0 at j already
-pub skipped : (f k j : ℕ) (a : List ℕ) → Ready f k j a → entry k a k j ≡ 0 → Stepped f k j a a false
+pub skipped : (f k j : ℕ) (a : List ℕ) → Ready f k j a → entry k a k j ≡ 0 → Went-through f k j a a false
 skipped f k j a R e =
     record {
       ready = unzeroed f k j a R;
@@ -110,9 +110,6 @@ module _ (f k j s : ℕ) (a b : List ℕ) (hj : j < k) (hs : s ≤ j) (R : Ready
   still : Echelon f k b
   still = echelon-kept f k a b (R .echelon) (omega (arith, len, R .echelon .room)) (λ i m p g. other i m (omega arith) g)
 
-  times-zero : times f (entry k a k j) 0 ≡ 0
-  times-zero = ap (λ x. x .0) (mul-nil (ring-of f) (entry k a k j, hc))
-
   cancelled : plus f (entry k a k j) (times f (entry k a k j) (minus f 0 1)) ≡ 0
   cancelled =
       let x = entry k a k j in
@@ -128,7 +125,7 @@ module _ (f k j s : ℕ) (a b : List ℕ) (hj : j < k) (hs : s ≤ j) (R : Ready
       go (no p) =
           put m (omega arith)
           ∙ ap₂ (λ x y. plus f x (times f (entry k a k j) y)) (R .zeros m (omega arith)) (R .echelon .low j m hj (omega arith))
-          ∙ ap (plus f 0) times-zero ∙ laws f .plus-zero 0 (zero-below f)
+          ∙ ap (plus f 0) (times-zero f (entry k a k j) hc) ∙ laws f .plus-zero 0 (zero-below f)
 
   after : Ready f k 0 b
   after =
@@ -138,7 +135,7 @@ module _ (f k j s : ℕ) (a b : List ℕ) (hj : j < k) (hs : s ≤ j) (R : Ready
         zeros = λ m h. absurd (omega arith);
       }
 
-  pub reduced : Stepped f k j a b false
+  pub reduced : Went-through f k j a b false
   reduced =
       record {
         ready = after;
@@ -193,7 +190,7 @@ module _ (f k j s : ℕ) (a b : List ℕ) (hj : j < k) (hs : s ≤ j) (R : Ready
   still′ : Echelon f k b
   still′ =
       echelon-of f k b (omega (arith, len, R .echelon .room)) (λ i m p g. below′ i m (omega arith) g)
-      (echelon-insert (ring-of f) k (rows f k a) (rows f k b) (echelon-to f k a (R .echelon)) j hj (c, hc′) (rows f k a k) zeros-el turned others-el put-el′)
+      (steps-insert (ring-of f) k (rows f k a) (rows f k b) (echelon-to f k a (R .echelon)) j hj (c, hc′) (rows f k a k) zeros-el turned others-el put-el′)
 
   after′ : Ready f k 0 b
   after′ = record { echelon = still′; below = λ m g. below′ k m (omega arith) g; zeros = λ m h. absurd (omega arith) }
@@ -202,11 +199,11 @@ module _ (f k j s : ℕ) (a b : List ℕ) (hj : j < k) (hs : s ≤ j) (R : Ready
   spare ys v s =
       let rb = ready-row f k 0 b after′ in
       residue-of f k b k ys (rb k (omega arith)) v
-      (residue-cong (ring-of f) k (rows f k b k) (rows f k a k) (vec f ys) (λ m g. ap (el f) (other′ k m (omega arith) g))
+      (defect-cong (ring-of f) k (rows f k b k) (rows f k a k) (el-at f ys) (λ m g. ap (el f) (other′ k m (omega arith) g))
       ∙ insert-solves (ring-of f) k (rows f k a) (rows f k b) (echelon-to f k a (R .echelon)) j hj (c, hc′) (rows f k a k) zeros-el turned others-el put-el′
-      (vec f ys) (residue-to f k b j ys (rb j (omega arith)) v (s j hj)))
+      (el-at f ys) (residue-to f k b j ys (rb j (omega arith)) v (s j hj)))
 
-  pub joined : Stepped f k j a b true
+  pub joined : Went-through f k j a b true
   joined =
       record {
         ready = after′;
@@ -217,13 +214,13 @@ module _ (f k j s : ℕ) (a b : List ℕ) (hj : j < k) (hs : s ≤ j) (R : Ready
       }
 
 -- one column after the other
-pub same-none : (f k : ℕ) (a : List ℕ) → Same f k a a
+pub same-none : (f k : ℕ) (a : List ℕ) → Same-solutions f k a a
 same-none f k a = record { on = λ y h s. s; back = λ y h s. s }
 
-pub same-more : (f k : ℕ) (a b c : List ℕ) → Same f k a b → Same f k b c → Same f k a c
+pub same-more : (f k : ℕ) (a b c : List ℕ) → Same-solutions f k a b → Same-solutions f k b c → Same-solutions f k a c
 same-more f k a b c S T = record { on = λ y h s. T .on y h (S .on y h s); back = λ y h s. S .back y h (T .back y h s) }
 
-pub ready-more : (f k j : ℕ) (r : Bool) (a b : List ℕ) → Stepped f k j a b r → r ≡ false → Ready f k (j + 1) b
+pub ready-more : (f k j : ℕ) (r : Bool) (a b : List ℕ) → Went-through f k j a b r → r ≡ false → Ready f k (j + 1) b
 ready-more f k j r a b S e = record { echelon = S .ready .echelon; below = S .ready .below; zeros = S .zeros e }
 
 all-solved : (f k : ℕ) (b ys : List ℕ) → Solved f k b ys → residue f k b k ys ≡ 0 → All-solved f k b ys
@@ -233,8 +230,8 @@ all-solved f k b ys s z i h = go (ℕ-discrete i k)
     go (yes p) = rw p z
     go (no p) = s i (omega arith)
 
-placed : (f k : ℕ) (a b : List ℕ) → Ready f k 0 b → Same f k a b
-    → ((ys : List ℕ) → Vector f k ys → Solved f k b ys → residue f k b k ys ≡ 0) → Placed f k a b true
+placed : (f k : ℕ) (a b : List ℕ) → Ready f k 0 b → Same-solutions f k a b
+    → ((ys : List ℕ) → Vector f k ys → Solved f k b ys → residue f k b k ys ≡ 0) → Went-through-all f k a b true
 placed f k a b R S z =
     record {
       ready = R;
@@ -243,20 +240,20 @@ placed f k a b R S z =
       never = λ e. differ e;
     }
 
-pub placed-in : (f k j : ℕ) (r : Bool) (a b c : List ℕ) → Same f k a b → Stepped f k j b c r → r ≡ true → Placed f k a c true
+pub placed-in : (f k j : ℕ) (r : Bool) (a b c : List ℕ) → Same-solutions f k a b → Went-through f k j b c r → r ≡ true → Went-through-all f k a c true
 placed-in f k j r a b c S T e = placed f k a c (T .ready) (same-more f k a b c S (T .same)) (T .spare e)
 
 -- no coefficient is left
 value-const : (f k : ℕ) (b : List ℕ) → Ready f k k b → (ys : List ℕ) → Vector f k ys → residue f k b k ys ≡ entry k b k k
 value-const f k b R ys v =
     sym (residue-is f k b k ys (ready-row f k k b R k (omega arith)) v)
-    ∙ ap (λ x. x .0) (residue-const (ring-of f) k (rows f k b k) (vec f ys) (λ m h. ap (el f) (R .zeros m h) ∙ el-zero f))
+    ∙ ap (λ x. x .0) (defect-const (ring-of f) k (rows f k b k) (el-at f ys) (λ m h. ap (el f) (R .zeros m h) ∙ el-zero f))
     ∙ el-is f (entry k b k k) (R .below k (omega arith))
 
-pub placed-none : (f k : ℕ) (a b : List ℕ) → Same f k a b → Ready f k k b → entry k b k k ≡ 0 → Placed f k a b true
+pub placed-none : (f k : ℕ) (a b : List ℕ) → Same-solutions f k a b → Ready f k k b → entry k b k k ≡ 0 → Went-through-all f k a b true
 placed-none f k a b S R e = placed f k a b (unzeroed f k k b R) S (λ ys v s. value-const f k b R ys v ∙ e)
 
-pub placed-never : (f k : ℕ) (a b : List ℕ) → Same f k a b → Ready f k k b → entry k b k k ≢ 0 → Placed f k a b false
+pub placed-never : (f k : ℕ) (a b : List ℕ) → Same-solutions f k a b → Ready f k k b → entry k b k k ≢ 0 → Went-through-all f k a b false
 placed-never f k a b S R n =
     record {
       ready = unzeroed f k k b R;
@@ -293,11 +290,11 @@ module _ (f k v : ℕ) (a b : List ℕ) (E : Echelon f k a) (small : (m : ℕ) �
   same-value = residue-kept f k a b E (omega (arith, lb, E .room)) kept
 
   value-new : (ys : List ℕ) → Vector f k ys → residue f k b k ys ≡ plus f (dotted f ys (coefs k a)) (minus f 0 v)
-  unfolding equations.residue
+  unfolding equations.defect
   value-new ys y =
       sym (residue-is f k b k ys (ready-row f k 0 b entered k (omega arith)) y)
       ∙ ap₂ (plus f)
-      (ap (λ x. x .0) (dot-cong (ring-of f) k (rows f k b k) (rows f k a k) (vec f ys) (vec f ys)
+      (ap (λ x. x .0) (dot-cong (ring-of f) k (rows f k b k) (rows f k a k) (el-at f ys) (el-at f ys)
       (λ m h. ap (λ x. ring-of f .mul (el f x) (el f (at ys m))) (coef m h)))
       ∙ dot-is f k a ys (k * (k + 1)) (omega (arith, E .room)) small y)
       (el-is f (entry k b k k) (rw last (laws f .minus-below 0 v)) ∙ last)
@@ -308,7 +305,7 @@ module _ (f k v : ℕ) (a b : List ℕ) (E : Echelon f k a) (small : (m : ℕ) �
   holds-of : (ys : List ℕ) → Vector f k ys → residue f k b k ys ≡ 0 → dotted f ys (coefs k a) ≡ v
   holds-of ys y e =
       let d = dotted f ys (coefs k a) in
-      let hd : d < q f = rw (← dot-is f k a ys (k * (k + 1)) (omega (arith, E .room)) small y) (equations.dot (ring-of f) k (rows f k a k) (vec f ys) .1) in
+      let hd : d < q f = rw (← dot-is f k a ys (k * (k + 1)) (omega (arith, E .room)) small y) (equations.dot (ring-of f) k (rows f k a k) (el-at f ys) .1) in
       let w : Elem f = (minus f 0 v, laws f .minus-below 0 v) in
       ap (λ x. x .0) (add-cancel (ring-of f) (d, hd) (v, hv) w (same f _ _ (sym (value-new ys y) ∙ e ∙ sym opposite)))
 
@@ -318,7 +315,7 @@ module _ (f k v : ℕ) (a b : List ℕ) (E : Echelon f k a) (small : (m : ℕ) �
   every-row : (ys : List ℕ) → Vector f k ys → Solved f k a ys → dotted f ys (coefs k a) ≡ v → All-solved f k b ys
   every-row ys y s e = all-solved f k b ys (λ i h. same-value i ys h y ∙ s i h) (holds-to ys y e)
 
-  pub inserted : (c : List ℕ) (r : Bool) → Placed f k b c r → Inserted f k v a c r
+  pub inserted : (c : List ℕ) (r : Bool) → Went-through-all f k b c r → Inserted f k v a c r
   inserted c r P =
       record {
         echelon = P .ready .echelon;

@@ -13,20 +13,23 @@ use lib.ListN.{length, set, replicate}
 use lib.Seq.{getD-set-same, getD-set-other}
 use Rattle.algebra.specs.Sequence.{at, all-below}
 use Rattle.algebra.specs.Equations as equations
-use Rattle.algebra.proofs.Sequence.{yes-true, all-below-intro, at-zeros}
-use Rattle.algebra.proofs.Equations.{Solves-from, solve-row, Two, two, unique, bare-solved}
+use Rattle.algebra.proofs.Booleans.{yes-true}
+use Rattle.algebra.proofs.At.{at-zeros}
+use Rattle.algebra.proofs.Below.{all-below-intro}
+use Rattle.algebra.proofs.Equations.{Solves-from, solve-row, Two, two, unique-solution, bare-solved}
 use Rattle.field.specs.Field.{q}
-use Rattle.field.proofs.Elem.{same, ring-of, el, el-is, zero-below, el-zero}
+use Rattle.field.proofs.Elem.{same, ring-of, el, el-is, zero-below, el-zero, zero-of, one-not-zero}
+use Rattle.field.proofs.Elements.{el-at, listed, at-listed}
 use Rattle.linear.specs.System.{Vector, entry, residue, Solved, Echelon, Finished, one, more}
-use Rattle.linear.specs.Buffer.{Backed}
-use Rattle.linear.proofs.Elements.{zero-of, one-not-zero, rows, vec, vector-below, row-of, residue-is, echelon-to, solved-to, solved-of, listed, at-listed, listed-vector, listed-solved, vector-ext}
+use Rattle.linear.specs.Step.{Backed}
+use Rattle.linear.proofs.Elements.{rows, vector-below, row-of, residue-is, echelon-to, solved-to, solved-of, listed-vector, listed-solved, vector-ext}
 
 -- the unknowns from j up solve the rows from j up; those below are 0
 pub record Backing (f k : ℕ) (w : List ℕ) (j : ℕ) (xs : List ℕ) : Type 0 where
   pub most : j ≤ k
   pub vector : Vector f k xs
   pub zeros : (m : ℕ) → m < j → at xs m ≡ 0
-  pub solves : Solves-from (ring-of f) k (rows f k w) j (vec f xs)
+  pub solves : Solves-from (ring-of f) k (rows f k w) j (el-at f xs)
 
 pub vector-of : (f k : ℕ) (xs : List ℕ) → length xs ≡ k → ((m : ℕ) → m < k → at xs m < q f) → Vector f k xs
 vector-of f k xs l h = record { size = l; below = yes-true (all-below (q f) xs) (all-below-intro (q f) xs (λ i b. h i (omega (arith, l)))) }
@@ -48,7 +51,7 @@ backing-more f k w xs j v E h B e l =
       vector = vector-of f k (set xs (j - 1) v) (l ∙ B .vector .size) (λ m g. below m g (ℕ-discrete m (j - 1)));
       zeros = λ m g. other m (omega arith) ∙ B .zeros m (omega arith);
       solves =
-          solve-row (ring-of f) k (rows f k w) (echelon-to f k w E) (j - 1) (vec f xs) (vec f (set xs (j - 1) v)) low
+          solve-row (ring-of f) k (rows f k w) (echelon-to f k w E) (j - 1) (el-at f xs) (el-at f (set xs (j - 1) v)) low
           (ap (el f) (B .zeros (j - 1) (omega arith)) ∙ el-zero f) (λ m n. ap (el f) (other m n)) value (λ i p g. B .solves i (omega arith) g);
     }
   where
@@ -61,13 +64,13 @@ backing-more f k w xs j v E h B e l =
     here : at (set xs (j - 1) v) (j - 1) ≡ v
     here = getD-set-same xs (j - 1) v 0 (omega (arith, B .vector .size, B .most))
 
-    is : equations.residue (ring-of f) k (rows f k w (j - 1)) (vec f xs) .0 ≡ v
+    is : equations.defect (ring-of f) k (rows f k w (j - 1)) (el-at f xs) .0 ≡ v
     is = residue-is f k w (j - 1) xs (row-of f k w E (j - 1) low) (B .vector) ∙ sym e
 
     small : v < q f
-    small = rw (← is) (equations.residue (ring-of f) k (rows f k w (j - 1)) (vec f xs) .1)
+    small = rw (← is) (equations.defect (ring-of f) k (rows f k w (j - 1)) (el-at f xs) .1)
 
-    value : el f (at (set xs (j - 1) v) (j - 1)) ≡ equations.residue (ring-of f) k (rows f k w (j - 1)) (vec f xs)
+    value : el f (at (set xs (j - 1) v) (j - 1)) ≡ equations.defect (ring-of f) k (rows f k w (j - 1)) (el-at f xs)
     value = same f _ _ (el-is f (at (set xs (j - 1) v) (j - 1)) (rw here small) ∙ here ∙ sym is)
 
     below : (m : ℕ) → m < k → Dec (m ≡ j - 1) → at (set xs (j - 1) v) m < q f
@@ -82,8 +85,8 @@ pub finished-one : (f k : ℕ) (w a b : List ℕ) → Echelon f k w → ((i : �
 finished-one f k w a b E heads B =
     one (B .vector) (B .solved)
     (λ ys v s. vector-ext f k ys b v (B .vector)
-    (unique (ring-of f) k (rows f k w) (echelon-to f k w E) (λ i h e. heads i h (zero-of f (entry k w i i) (E .below i i h (omega arith)) e))
-    (vec f ys) (vec f b) (solved-to f k w ys E v s) (solved-to f k w b E (B .vector) (B .solved))))
+    (unique-solution (ring-of f) k (rows f k w) (echelon-to f k w E) (λ i h e. heads i h (zero-of f (entry k w i i) (E .below i i h (omega arith)) e))
+    (el-at f ys) (el-at f b) (solved-to f k w ys E v s) (solved-to f k w b E (B .vector) (B .solved))))
 
 pub finished-more : (f k j : ℕ) (w a : List ℕ) → Echelon f k w → j < k → entry k w j j ≡ 0 → Finished f k w a a false
 finished-more f k j w a E h e =
@@ -114,4 +117,4 @@ module _ (f k : ℕ) (w : List ℕ) (room : k * (k + 1) + (k + 1) ≤ length w) 
   pub cleared-solved : (ys : List ℕ) → Vector f k ys → Solved f k w ys
   cleared-solved ys v =
       solved-of f k w ys cleared-echelon v
-      (λ i h. bare-solved (ring-of f) k (rows f k w) (echelon-to f k w cleared-echelon) i h (ap (el f) (zero-at (i * (k + 1) + i)) ∙ el-zero f) (vec f ys))
+      (λ i h. bare-solved (ring-of f) k (rows f k w) (echelon-to f k w cleared-echelon) i h (ap (el f) (zero-at (i * (k + 1) + i)) ∙ el-zero f) (el-at f ys))

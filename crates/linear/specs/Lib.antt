@@ -1,2 +1,2 @@
 pub mod System
-pub mod Buffer
+pub mod Step

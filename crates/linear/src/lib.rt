@@ -5,7 +5,7 @@ ghost use lib.ListN.{length, replicate};
 ghost use Rattle.field.specs.Field.{q, plus, minus, times, inverse};
 ghost use Rattle.field.specs.Table.{Powers, Logs};
 ghost use Rattle.linear.specs.System.{entry, residue, Echelon, Inserted, Finished};
-ghost use Rattle.linear.specs.Buffer.{Added, Apart, Ready, Stepped, Placed, Backed, Bared};
+ghost use Rattle.linear.specs.Step.{Added, Apart, Ready, Went-through, Went-through-all, Backed, Bared};
 
 // All bytes 0: no equation.
 pub fn clear(s: &mut [u8])
@@ -59,7 +59,7 @@ fn step(
     logs: &[u8; 256],
 ) -> bool
     requires { ⌜ Ready field k j (now work) × (j < k) × Powers 1 (now powers) × Logs (now logs) ⌝ }
-    ensures { λ r. ⌜ Stepped field k j (now (work .entry)) (now (work .exit)) r ⌝ }
+    ensures { λ r. ⌜ Went-through field k j (now (work .entry)) (now (work .exit)) r ⌝ }
 {
     let w = k + 1;
     let h = work[k * w + j];
@@ -81,7 +81,7 @@ fn step(
 // Takes the newcomer through all columns: false where it contradicts the rows.
 fn place(field: u32, work: &mut [u8], k: usize, powers: &[u8; 255], logs: &[u8; 256]) -> bool
     requires { ⌜ Ready field k 0 (now work) × Powers 1 (now powers) × Logs (now logs) ⌝ }
-    ensures { λ r. ⌜ Placed field k (now (work .entry)) (now (work .exit)) r ⌝ }
+    ensures { λ r. ⌜ Went-through-all field k (now (work .entry)) (now (work .exit)) r ⌝ }
 {
     let mut j: usize = 0;
     while j < k {

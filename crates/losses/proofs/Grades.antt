@@ -10,7 +10,8 @@ use native.Mathlib.Decide.{ℕ-discrete}
 use native.Mathlib.Omega.{arith}
 use borrow.Author.Tests.{eq-eqb, ne-eqb, le-leb, lt-leb}
 use Rattle.algebra.specs.Sequence.{every}
-use Rattle.algebra.proofs.Sequence.{so, yes-true, no-false, every-at, every-intro}
+use Rattle.algebra.proofs.Booleans.{so, yes-true, no-false}
+use Rattle.algebra.proofs.Every.{every-at, every-intro}
 use Rattle.code.specs.declared.Shape.{Shape}
 use Rattle.code.specs.Shape.{ceiling, groups, missing}
 use Rattle.code.specs.Codeword.{guarantee}

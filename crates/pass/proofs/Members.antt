@@ -12,7 +12,8 @@ use lib.Dec.{ltb, eqb}
 use lib.ListN.{length, take, drop}
 use lib.Seq.{ext-getD}
 use Rattle.algebra.specs.Sequence.{at}
-use Rattle.algebra.proofs.Sequence.{length-tabulate, at-tabulate, count-same}
+use Rattle.algebra.proofs.Tabulate.{length-tabulate, at-tabulate}
+use Rattle.algebra.proofs.Counting.{count-same}
 use Rattle.code.specs.declared.Shape.{Shape}
 use Rattle.code.specs.Shape.{size, groups, wired, first, slot-at, mates}
 use Rattle.code.specs.Decoding.{lost}

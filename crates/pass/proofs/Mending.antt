@@ -15,8 +15,8 @@ use lib.ListN.{length, take, drop, set, length-set}
 use lib.Seq.{getD-set-same, getD-set-other}
 use borrow.Author.Tests.{eqb-true}
 use Rattle.algebra.specs.Sequence.{at, tabulate, count}
-use Rattle.algebra.proofs.Sequence.{length-tabulate, at-tabulate, tabulate-is}
-use Rattle.algebra.proofs.Counting.{count-one, count-yes, count-no}
+use Rattle.algebra.proofs.Tabulate.{length-tabulate, at-tabulate, tabulate-is}
+use Rattle.algebra.proofs.Counting.{count-yes, count-no, count-one}
 use Rattle.algebra.proofs.Filling.{Filled}
 use Rattle.algebra.proofs.Splicing.{splice, filled-part}
 use Rattle.field.specs.Polynomial.{dotted}

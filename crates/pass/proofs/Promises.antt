@@ -9,7 +9,10 @@ use lib.Dec.{T, eqb, ltb, lt→ltb}
 use lib.ListN.{length}
 use borrow.Author.Tests.{eq-eqb}
 use Rattle.algebra.specs.Sequence.{at, every}
-use Rattle.algebra.proofs.Sequence.{yes-true, every-intro, all-below-at, count-same}
+use Rattle.algebra.proofs.Booleans.{yes-true}
+use Rattle.algebra.proofs.Every.{every-intro}
+use Rattle.algebra.proofs.Counting.{count-same}
+use Rattle.algebra.proofs.Below.{all-below-at}
 use Rattle.field.specs.Field.{q}
 use Rattle.code.specs.Answer.{Answers}
 use Rattle.code.specs.Shape.{groups}

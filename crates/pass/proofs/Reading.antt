@@ -9,7 +9,8 @@ use native.Mathlib.Decide.{decLt}
 use native.Mathlib.Omega.{arith}
 use lib.Dec.{T, ltb, eqb}
 use Rattle.algebra.specs.Sequence.{at, every}
-use Rattle.algebra.proofs.Sequence.{so, yes-true, no-false, every-at, every-intro}
+use Rattle.algebra.proofs.Booleans.{so, yes-true, no-false}
+use Rattle.algebra.proofs.Every.{every-at, every-intro}
 use Rattle.field.specs.Field.{q}
 use Rattle.code.specs.declared.Shape.{Shape}
 use Rattle.code.specs.Shape.{size, groups, wired, first, slot-at}

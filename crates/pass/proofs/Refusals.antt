@@ -7,7 +7,7 @@ use Prim.Native.Nat.{ℕ}
 use lib.Dec.{eqb, eqb→eq}
 use lib.ListN.{length}
 use Rattle.algebra.specs.Sequence.{all-below}
-use Rattle.algebra.proofs.Sequence.{and-left, and-right}
+use Rattle.algebra.proofs.Booleans.{and-left, and-right}
 use Rattle.code.specs.declared.Shape.{Shape}
 use Rattle.code.specs.Question.{ask}
 use Rattle.code.proofs.Questions.{asked, or-ask-passed}

@@ -11,7 +11,7 @@ use borrow.Author.Tests.{eq-eqb, ne-eqb}
 use lib.Dec.{eqb}
 use lib.ListN.{length}
 use Rattle.algebra.specs.Sequence.{all-below}
-use Rattle.algebra.proofs.Sequence.{yes-true}
+use Rattle.algebra.proofs.Booleans.{yes-true}
 use Rattle.field.specs.Field.{q}
 use Rattle.code.specs.declared.Shape.{Shape}
 use Rattle.code.specs.Answer.{Fills}

@@ -10,7 +10,10 @@ use native.Mathlib.Omega.{arith}
 use lib.Dec.{T, eqb, eqb-refl}
 use lib.ListN.{length}
 use Rattle.algebra.specs.Sequence.{at, tabulate, Each}
-use Rattle.algebra.proofs.Sequence.{yes-true, each-zip, map-each, length-tabulate, at-tabulate, every-intro}
+use Rattle.algebra.proofs.Booleans.{yes-true}
+use Rattle.algebra.proofs.Each.{each-zip, map-each}
+use Rattle.algebra.proofs.Tabulate.{length-tabulate, at-tabulate}
+use Rattle.algebra.proofs.Every.{every-intro}
 use Rattle.code.specs.declared.Shape.{Shape}
 use Rattle.code.specs.Decoding.{lost, agrees}
 use Rattle.code.specs.Repair.{symbols-of}

@@ -11,7 +11,7 @@ use Prim.Native.Nat.{ℕ}
 use borrow.Author.Tests.{eq-eqb, ne-eqb}
 use lib.Dec.{eqb, eqb→eq}
 use lib.ListN.{length}
-use Rattle.algebra.proofs.Sequence.{and-left, and-right}
+use Rattle.algebra.proofs.Booleans.{and-left, and-right}
 use Rattle.code.specs.declared.Code.{Code}
 use Rattle.code.specs.Question.{ask, or-ask}
 use Rattle.code.specs.Family.{single, code-refusal}

@@ -5,11 +5,11 @@ use mathlib.Core.Path.{_≡_, sym, ap₂}
 use mathlib.Core.List.{List}
 use Prim.Native.Nat.{ℕ, _+_, _*_, _<_}
 use lib.ListN.{length, take}
-use Rattle.algebra.specs.Sequence.{at, tabulate}
-use Rattle.algebra.proofs.Sequence.{length-tabulate, at-tabulate}
+use Rattle.algebra.specs.Sequence.{at, tabulate, column}
+use Rattle.algebra.proofs.Tabulate.{length-tabulate, at-tabulate}
 use Rattle.field.specs.Polynomial.{dotted}
 use Rattle.code.specs.declared.Shape.{Shape}
-use Rattle.code.specs.Repair.{weights, restored, repaired, column, strip}
+use Rattle.code.specs.Repair.{weights, restored, repaired, strip}
 use Rattle.code.specs.Laws.{Mending}
 use Rattle.code.proofs.Mates.{mates-number}
 use Rattle.repair.specs.Weights.{sixteen}

@@ -7,14 +7,16 @@ use Prim.Native.Nat.{ℕ, _*_, _≤_, _<_}
 use native.Mathlib.Omega.{arith}
 use borrow.Author.Tests.{eq-eqb}
 use lib.ListN.{length}
-use Rattle.algebra.specs.Sequence.{at, all-below, In}
-use Rattle.algebra.proofs.Sequence.{yes-true, all-below-at, all-below-intro, each-index}
+use Rattle.algebra.specs.Sequence.{at, all-below, In, column}
+use Rattle.algebra.proofs.Booleans.{yes-true}
+use Rattle.algebra.proofs.Each.{each-index}
+use Rattle.algebra.proofs.Below.{all-below-at, all-below-intro}
 use Rattle.field.specs.Field.{q}
 use Rattle.field.specs.Polynomial.{poly, dotted}
 use Rattle.code.specs.declared.Shape.{Shape}
 use Rattle.code.specs.Shape.{point, others, mates}
 use Rattle.code.specs.Codeword.{encoded}
-use Rattle.code.specs.Repair.{weights, repaired, symbols-of, column, strip}
+use Rattle.code.specs.Repair.{weights, repaired, symbols-of, strip}
 use Rattle.code.specs.Laws.{Mending}
 use Rattle.code.specs.Promise.{Weights-law, Repair-interpolates, Repairs-back, Strip-restores}
 use Rattle.code.proofs.Answers.{fills-in, answers-in}

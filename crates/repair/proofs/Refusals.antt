@@ -9,7 +9,7 @@ use borrow.Author.Tests.{lt-ltb, le-leb, eq-eqb}
 use lib.Dec.{T, leb, ltb, eqb, leb→le, ltb→lt, eqb→eq}
 use lib.ListN.{length}
 use Rattle.algebra.specs.Sequence.{all-below}
-use Rattle.algebra.proofs.Sequence.{and-left, and-right}
+use Rattle.algebra.proofs.Booleans.{and-left, and-right}
 use Rattle.field.specs.Field.{q}
 use Rattle.code.specs.declared.Shape.{Shape}
 use Rattle.code.specs.Question.{ask}

@@ -10,7 +10,7 @@ use native.Mathlib.Omega.{arith}
 use lib.ListN.{length, take, replicate, length-replicate, getD-replicate, List·getD-eq-default}
 use lib.Seq.{ext-getD, length-take-le, getD-take}
 use Rattle.algebra.specs.Sequence.{at, tabulate}
-use Rattle.algebra.proofs.Sequence.{length-tabulate, at-tabulate, tabulate-is}
+use Rattle.algebra.proofs.Tabulate.{length-tabulate, at-tabulate, tabulate-is}
 use Rattle.algebra.proofs.Filling.{Filled}
 use Rattle.repair.specs.Weights.{sixteen}
 

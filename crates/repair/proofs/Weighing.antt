@@ -9,7 +9,7 @@ use native.Mathlib.Omega.{arith}
 use lib.ListN.{length, take, length-map}
 use lib.Seq.{take-all}
 use Rattle.algebra.specs.Sequence.{at}
-use Rattle.algebra.proofs.Sequence.{at-map}
+use Rattle.algebra.proofs.At.{at-map}
 use Rattle.field.specs.Field.{minus, times, inverse}
 use Rattle.field.specs.Polynomial.{dotted}
 use Rattle.code.specs.declared.Shape.{Shape}

@@ -10,12 +10,12 @@ use mathlib.Core.Bool.{true}
 use mathlib.Core.List.{List, map}
 use Prim.Native.Nat.{ℕ, _*_, _≤_, _<_}
 use lib.ListN.{length, take}
-use Rattle.algebra.specs.Sequence.{at, all-below}
+use Rattle.algebra.specs.Sequence.{at, all-below, column}
 use Rattle.field.specs.Field.{q}
 use Rattle.field.specs.Polynomial.{poly, dotted}
 use Rattle.code.specs.Shape.{point, mates}
 use Rattle.code.specs.Codeword.{encoded}
-use Rattle.code.specs.Repair.{symbols-of, column}
+use Rattle.code.specs.Repair.{symbols-of}
 use Rattle.code.specs.Laws.{Family, Mending}
 use Rattle.code.specs.Promise.{Message, Interpolates}
 use Rattle.code.specs.declared.Shape.{Shape}

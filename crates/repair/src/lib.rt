@@ -2,12 +2,12 @@
 ghost use mathlib.Core.Path.{_≡_};
 ghost use Prim.Native.Nat.{_*_, _≤_, _<_};
 ghost use lib.ListN.{length, take};
-ghost use Rattle.algebra.specs.Sequence.{tabulate};
+ghost use Rattle.algebra.specs.Sequence.{tabulate, column};
 ghost use Rattle.field.specs.Polynomial.{dotted};
 ghost use Rattle.field.specs.Table.{Powers, Logs};
 ghost use Rattle.code.specs.Family.{single, code-refusal};
 ghost use Rattle.code.specs.Laws.{Mending};
-ghost use Rattle.code.specs.Repair.{weights, column};
+ghost use Rattle.code.specs.Repair.{weights};
 ghost use Rattle.repair.specs.Weights.{sixteen, Weights-say};
 ghost use Rattle.repair.specs.Mates.{mates-refusal, Repair-says, Rebuild-says};
 use code::Answer;

@@ -8,7 +8,7 @@ use Prim.Native.Nat.{ℕ, zero, suc, _+_, _≤_, _<_}
 use native.Mathlib.Omega.{arith}
 use lib.Dec.{eqb, leb}
 use Rattle.algebra.specs.Sequence.{every}
-use Rattle.algebra.proofs.Sequence.{count-most}
+use Rattle.algebra.proofs.Counting.{count-most}
 use Rattle.code.specs.Question.{ask, or-ask}
 use Rattle.code.specs.declared.Code.{Code}
 use Rattle.code.specs.declared.Shape.{Shape}

@@ -16,8 +16,9 @@ use lib.Dec.{T, leb, eqb, ltb, eqb→eq, le→leb, leb→le}
 use lib.ListN.{length, drop}
 use borrow.Author.Tests.{lt-ltb, le-leb, eq-eqb, ne-eqb}
 use Rattle.algebra.specs.Sequence.{at, every, all-below}
-use Rattle.algebra.proofs.Sequence.{so, yes-true, and-both, and-left, and-right, at-tabulate}
-use Rattle.algebra.proofs.Counting.{every-same}
+use Rattle.algebra.proofs.Booleans.{so, yes-true, and-left, and-right, and-both}
+use Rattle.algebra.proofs.Tabulate.{at-tabulate}
+use Rattle.algebra.proofs.Every.{every-same}
 use Rattle.field.specs.Field.{q}
 use Rattle.field.proofs.Elem.{zero-below}
 use Rattle.code.specs.Question.{ask, or-ask}

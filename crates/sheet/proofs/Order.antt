@@ -8,7 +8,7 @@ use native.Mathlib.Omega.{arith}
 use lib.ListN.{length, length-append, List·getD-append}
 use lib.Seq.{getD-at}
 use Rattle.algebra.specs.Sequence.{at, tabulate}
-use Rattle.algebra.proofs.Sequence.{length-tabulate, at-tabulate}
+use Rattle.algebra.proofs.Tabulate.{length-tabulate, at-tabulate}
 use Rattle.code.specs.declared.Code.{Code}
 use Rattle.words.specs.Word.{code-word, end-word, slot-word}
 use Rattle.sheet.specs.Sheet.{sheet-words}

@@ -8,7 +8,11 @@ use native.Mathlib.Omega.{arith}
 use lib.Dec.{T, eqb, ltb, ltb→lt, lt→ltb}
 use lib.ListN.{length}
 use Rattle.algebra.specs.Sequence.{at, tabulate}
-use Rattle.algebra.proofs.Sequence.{so, Same, same, other, same?, tabulate-is, tabulate-same, every-at, every-intro, all-below-at}
+use Rattle.algebra.proofs.Booleans.{so}
+use Rattle.algebra.proofs.Equality.{Same, same, other, same?}
+use Rattle.algebra.proofs.Tabulate.{tabulate-is, tabulate-same}
+use Rattle.algebra.proofs.Every.{every-at, every-intro}
+use Rattle.algebra.proofs.Below.{all-below-at}
 use Rattle.field.specs.Field.{q}
 use Rattle.field.proofs.Laws.{q-most}
 use Rattle.field.proofs.Elem.{zero-below}

@@ -8,7 +8,7 @@ use Prim.Native.Nat.{ℕ, _≤_}
 use lib.ListN.{length, take, drop}
 use lib.Seq.{take-at}
 use borrow.Author.Tests.{eq-eqb}
-use Rattle.algebra.proofs.Sequence.{length-tabulate}
+use Rattle.algebra.proofs.Tabulate.{length-tabulate}
 use Rattle.code.proofs.Answers.{fills-is, fills-in}
 use Rattle.words.specs.Word.{word-symbol, word-mark}
 use Rattle.sheet.specs.Sheet.{middle-word, code-in, symbols-in, marks-in}

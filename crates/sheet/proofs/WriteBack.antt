@@ -11,7 +11,11 @@ use native.Mathlib.Omega.{arith}
 use lib.Dec.{T, eqb}
 use lib.ListN.{length}
 use Rattle.algebra.specs.Sequence.{at, tabulate, all-below}
-use Rattle.algebra.proofs.Sequence.{so, same, length-tabulate, at-tabulate, tabulate-is, tabulate-same, every-at, all-below-intro}
+use Rattle.algebra.proofs.Booleans.{so}
+use Rattle.algebra.proofs.Equality.{same}
+use Rattle.algebra.proofs.Tabulate.{length-tabulate, at-tabulate, tabulate-is, tabulate-same}
+use Rattle.algebra.proofs.Every.{every-at}
+use Rattle.algebra.proofs.Below.{all-below-intro}
 use Rattle.code.specs.Decoding.{lost}
 use Rattle.code.specs.declared.Code.{Code}
 use Rattle.words.specs.Word.{word-at, kind, code-word, end-word, kept-word, slot-word, bytes, slot-fits, word-symbol, word-mark}

@@ -8,7 +8,7 @@ use native.Mathlib.Omega.{arith}
 use lib.ListN.{length, take, drop, length-append, take-append-drop, drop-of-length-le}
 use lib.Seq.{length-take-le}
 use Rattle.algebra.specs.Sequence.{tabulate-from, tabulate}
-use Rattle.algebra.proofs.Sequence.{length-tabulate, tabulate-suc}
+use Rattle.algebra.proofs.Tabulate.{length-tabulate, tabulate-suc}
 use Rattle.code.specs.declared.Code.{Code}
 use Rattle.words.specs.Word.{word-bytes, bytes, code-word, end-word, slot-word}
 use Rattle.sheet.specs.Sheet.{sheet-words, sheet-of}

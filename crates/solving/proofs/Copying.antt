@@ -15,15 +15,17 @@ use lib.ListN.{length, take, length-take}
 use lib.Seq.{length-take-le, getD-take}
 use borrow.Author.Tests.{eq-eqb}
 use Rattle.algebra.specs.Sequence.{at}
-use Rattle.algebra.proofs.Counting.{or-left, or-right}
+use Rattle.algebra.specs.Writing.{Written}
+use Rattle.algebra.proofs.Booleans.{so, yes-true, or-left, or-right}
+use Rattle.algebra.proofs.Tabulate.{tabulate-is}
+use Rattle.algebra.proofs.Every.{every-intro}
 use Rattle.algebra.proofs.Filling.{Filled}
-use Rattle.algebra.proofs.Sequence.{so, yes-true, every-intro, tabulate-is}
 use Rattle.field.specs.Field.{q}
 use Rattle.code.specs.Decoding.{lost, fits}
 use Rattle.code.specs.Erasure.{kept-below}
 use Rattle.code.specs.declared.Shape.{Shape}
-use Rattle.interpolation.specs.Newton.{Written, symbol}
-use Rattle.interpolation.proofs.Rows.{symbol-kept}
+use Rattle.interpolation.specs.Interpolated.{masked}
+use Rattle.interpolation.proofs.Marks.{masked-kept}
 use Rattle.code.specs.Verdict.{Verdict}
 use Rattle.elimination.specs.Task.{Received}
 use Rattle.elimination.proofs.Equations.{kept-symbol, fits-to, fits-of}
@@ -49,8 +51,8 @@ Kept-same n ws vs ms = (p : ℕ) → p < n → at ms p ≢ 1 → at vs p ≡ at 
 pub loaded-size : (g : ℕ → ℕ) (n : ℕ) (a z : List ℕ) → Written g 0 n a z → n ≤ length a → length (take n z) ≡ n
 loaded-size g n a z W h = length-take-le n z (omega (arith, W .size))
 
-pub loaded : (n : ℕ) (ws ms a z : List ℕ) → Written (λ p. symbol (at ws p) (at ms p)) 0 n a z → Kept-same n ws (take n z) ms
-loaded n ws ms a z W p h k = getD-take n z p 0 h ∙ W .put p (omega arith) h ∙ symbol-kept (at ws p) (at ms p) k
+pub loaded : (n : ℕ) (ws ms a z : List ℕ) → Written (λ p. masked (at ws p) (at ms p)) 0 n a z → Kept-same n ws (take n z) ms
+loaded n ws ms a z W p h k = getD-take n z p 0 h ∙ W .put p (omega arith) h ∙ masked-kept (at ws p) (at ms p) k
 
 fits-same : (s : Shape) (ws vs ms ys : List ℕ) → Kept-same (s .n) ws vs ms → fits s ws ms ys ≡ true → fits s vs ms ys ≡ true
 fits-same s ws vs ms ys e f =

@@ -14,7 +14,10 @@ use lib.Dec.{eqb, eqb→eq}
 use lib.ListN.{List·getD-eq-default}
 use borrow.Author.Tests.{eq-eqb}
 use Rattle.algebra.specs.Sequence.{at, tabulate, count, all-below}
-use Rattle.algebra.proofs.Sequence.{so, yes-true, every-at, every-intro, length-tabulate, at-tabulate, tabulate-is, tabulate-same, all-below-intro}
+use Rattle.algebra.proofs.Booleans.{so, yes-true, differ}
+use Rattle.algebra.proofs.Tabulate.{length-tabulate, at-tabulate, tabulate-is, tabulate-same}
+use Rattle.algebra.proofs.Every.{every-at, every-intro}
+use Rattle.algebra.proofs.Below.{all-below-intro}
 use Rattle.algebra.proofs.Locality.{raised}
 use Rattle.field.specs.Field.{q}
 use Rattle.field.specs.Polynomial.{poly}
@@ -34,7 +37,6 @@ use Rattle.code.proofs.Codewords.{Message-is}
 use Rattle.code.proofs.Grouped.{exponent-is, exponent-raised}
 use Rattle.code.proofs.Shared.{exponents-are}
 use Rattle.code.proofs.Coefficients.{coefficients, coefficients-below, length-coefficients, coefficients-value, coefficient-at, coefficient-gap, Place, taken, gap as gap-at, place}
-use Rattle.linear.proofs.Elimination.{differ}
 use Rattle.interpolation.specs.Interpolated.{Passes, Interpolated}
 use Rattle.elimination.proofs.Equations.{Fit, fits-to, fits-of}
 use Rattle.solving.specs.Step.{gap, gaps-zero, message-of}

@@ -10,8 +10,9 @@ use native.Mathlib.Omega.{arith}
 use lib.Dec.{T, eqb, ltb, lt→ltb}
 use lib.ListN.{length}
 use Rattle.algebra.specs.Sequence.{at}
-use Rattle.algebra.proofs.Counting.{or-right}
-use Rattle.algebra.proofs.Sequence.{so, yes-true, every-at, every-intro, length-tabulate}
+use Rattle.algebra.proofs.Booleans.{so, yes-true, or-right}
+use Rattle.algebra.proofs.Tabulate.{length-tabulate}
+use Rattle.algebra.proofs.Every.{every-at, every-intro}
 use Rattle.field.specs.Field.{q}
 use Rattle.code.specs.declared.Shape.{Shape}
 use Rattle.code.specs.Shape.{group}

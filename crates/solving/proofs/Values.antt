@@ -9,8 +9,7 @@ use Rattle.algebra.specs.Sequence.{at}
 use Rattle.field.specs.Field.{q, plus, times}
 use Rattle.field.specs.Polynomial.{poly, dotted}
 use Rattle.field.proofs.Laws.{laws}
-use Rattle.field.proofs.Elem.{zero-below}
-use Rattle.interpolation.proofs.Values.{plus-times-zero}
+use Rattle.field.proofs.Elem.{zero-below, plus-times-zero}
 
 poly-zeros : (f : ℕ) (cs : List ℕ) (x : ℕ) → x < q f → ((m : ℕ) → at cs m ≡ 0) → poly f cs x ≡ 0
 unfolding poly

@@ -10,7 +10,7 @@ use lib.Dec.{T}
 use lib.ListN.{length, drop, drop-of-length-le}
 use lib.Seq.{drop-cons}
 use Rattle.algebra.specs.Sequence.{at, tabulate-from, tabulate, all-below}
-use Rattle.algebra.proofs.Sequence.{all-below-at}
+use Rattle.algebra.proofs.Below.{all-below-at}
 use Rattle.words.specs.Word.{word-bytes, bytes, word-at}
 use Rattle.words.proofs.Words.{word-of-bytes, bytes-of-word}
 

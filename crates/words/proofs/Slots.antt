@@ -8,7 +8,7 @@ use Prim.Native.Nat.{ℕ, _%_, _<_}
 use native.Mathlib.Omega.{arith}
 use lib.Dec.{T, eqb, ltb, ltb→lt}
 use borrow.Author.Tests.{eq-eqb, ne-eqb}
-use Rattle.algebra.proofs.Sequence.{Same, same, same?}
+use Rattle.algebra.proofs.Equality.{Same, same, same?}
 use Rattle.words.specs.Word.{kind, kept-word, lost-word, slot-fits, word-symbol, word-mark}
 
 abbrev pub made : Bool → (slot symbol : ℕ) → ℕ

@@ -10,7 +10,7 @@ use Prim.Native.Nat.{ℕ, _*_, _/_, _%_, _<_}
 use native.Mathlib.Omega.{arith}
 use lib.Dec.{eqb}
 use borrow.Author.Tests.{eq-eqb, ne-eqb}
-use Rattle.algebra.proofs.Sequence.{Same, same, other, same?}
+use Rattle.algebra.proofs.Equality.{Same, same, other, same?}
 use Rattle.code.specs.declared.Code.{Code}
 use Rattle.words.specs.Word.{word, word-bytes, kind, code-word, kept-word, lost-word, word-code, slot-fits}
 

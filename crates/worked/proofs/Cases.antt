@@ -7,7 +7,7 @@ use Prim.Native.Nat.{ℕ, _≤_, _<_}
 use native.Mathlib.Omega.{arith}
 use lib.Dec.{eqb, eqb→eq, lit<, lit≤}
 use Rattle.algebra.specs.Sequence.{at, tabulate-from, tabulate, count, every, all-below}
-use Rattle.algebra.proofs.Sequence.{so, yes-true, and-left, and-right}
+use Rattle.algebra.proofs.Booleans.{so, yes-true, and-left, and-right}
 use Rattle.field.specs.Field.{q, γ, xor-from, plus, minus, doubled, times-from, times, power, inverse}
 use Rattle.field.specs.Polynomial.{dotted}
 use Rattle.code.specs.declared.Shape.{Shape}

@@ -1,9 +1,8 @@
 use borrow.Author.Needs.{needs}
-use mathlib.Core.Path.{_≡_, sym, ap, ap₂, _∙_}
-use Prim.Native.Nat.{ℕ, suc, _*_, _-_, _/_, _%_, _^_, _≤_, _<_}
+use Prim.Native.Nat.{_*_, _-_, _/_, _%_, _^_, _≤_}
 use native.Mathlib.Numerals.{add-one}
 use native.Mathlib.Omega.{arith}
-use Rattle.field.specs.Field.{doubled, times}
+use Rattle.field.specs.Field.{times}
 use Rattle.field.proofs.Xor.{xor-is}
 use Rattle.field.proofs.Byte.{_⊕_, ⊕-below, double-below}
 use Rattle.field.proofs.Bits.{Bits, bit-times-below, bits-none, bits-more, bits-all}

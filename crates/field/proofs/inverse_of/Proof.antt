@@ -1,6 +1,6 @@
 use borrow.Author.Needs.{needs}
-use mathlib.Core.Path.{_≡_, _∙_}
-use Prim.Native.Nat.{ℕ, _-_, _%_, _<_}
+use mathlib.Core.Path.{_∙_}
+use Prim.Native.Nat.{_-_, _%_}
 use native.Mathlib.Omega.{arith}
 use Rattle.algebra.specs.Sequence.{at}
 use Rattle.field.proofs.Operations.{inverse-13, inverse-nil, inverse-log, reduced-below}

@@ -1,4 +1,3 @@
-use borrow.Author.Needs.{needs}
 use native.Mathlib.Omega.{arith}
 use Rattle.field.proofs.Operations.{q-13, q-256}
 use Rattle.field.proofs.order.Statement.{statement}

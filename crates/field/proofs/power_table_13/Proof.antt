@@ -1,5 +1,3 @@
-use borrow.Author.Needs.{needs}
-use lib.Dec.{T}
 use Rattle.field.proofs.Tables.{doubles, powers, doubling, next-is, ends}
 use Rattle.algebra.specs.Sequence.{every}
 use Rattle.field.specs.Field.{q, γ, times}

@@ -1,5 +1,5 @@
 use borrow.Author.Needs.{needs}
-use Rattle.interpolation.proofs.Step.{skipped, stepped, rooms-kept}
+use Rattle.interpolation.proofs.Step.{place-skipped, place-taken, rooms-kept}
 use Rattle.interpolation.proofs.advance.Statement.{statement}
 use Rattle.interpolation.proofs.advance.Tie as tie
 
@@ -11,7 +11,7 @@ returns c =
     let s = c .before .before .before in
     let a = s .args in (
       s .pre .5,
-      λ ws N. skipped (a .field) (a .n) (a .points .now) ws (a .marks .now) (a .i) (a .c) (a .coefs .now) (a .basis .now) (a .values .now) (a .rests .now) (c .if1 .taken) N,
+      λ ws N. place-skipped (a .field) (a .n) (a .points .now) ws (a .marks .now) (a .i) (a .c) (a .coefs .now) (a .basis .now) (a .values .now) (a .rests .now) (c .if1 .taken) N,
     )
 
 element-copy-out-y : tie.Need-element-copy-out-y
@@ -78,7 +78,7 @@ returns-2 c =
       rooms-kept (a .coefs .now) (a .basis .now) (a .values .now) (a .rests .now) (A .last .1 .0) (D .last .1 .0) (C .last .1 .0) (B .last .1 .0)
           (s .pre .5) (A .ensures .size) (D .ensures .size) (C .ensures .size) (B .ensures .size),
       λ ws N.
-          stepped (a .field) (a .n) (a .points .now) ws (a .marks .now) (a .i) (a .c) (a .coefs .now) (a .basis .now) (a .values .now) (a .rests .now)
+          place-taken (a .field) (a .n) (a .points .now) ws (a .marks .now) (a .i) (a .c) (a .coefs .now) (a .basis .now) (a .values .now) (a .rests .now)
           (A .last .1 .0) (D .last .1 .0) (C .last .1 .0) (B .last .1 .0) (k .result) (v .result) (h .result) (w .result) (b .result) (e .result)
           (s .pre .4) (s .pre .5) (s .pre .1) (c .before .before .before .before .before .before .before .before .before .before .before .before .before .before .before .before .before .before .before .if1 .left) (w .ensures .0) (b .ensures) (e .ensures .0)
           (v .ensures) (k .ensures) (h .ensures) (A .ensures) (B .ensures) (C .ensures) (D .ensures) N,

@@ -1,10 +1,9 @@
 use mathlib.Core.Logic.{_≢_}
 use mathlib.Core.Path.{_≡_, sym, _∙_}
 use Prim.Native.Nat.{ℕ, _-_, _≤_, _<_}
-use borrow.Author.Needs.{needs}
 use native.Mathlib.Omega.{arith}
 use Rattle.algebra.specs.Sequence.{at}
-use Rattle.interpolation.proofs.Rows.{agreed-more, agreed-not, agreed-all}
+use Rattle.interpolation.proofs.Marks.{agreed-more, agreed-not, agreed-all}
 use Rattle.interpolation.proofs.agree.Statement.{statement}
 use Rattle.interpolation.proofs.agree.Tie as tie
 

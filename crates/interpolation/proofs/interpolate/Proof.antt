@@ -4,11 +4,11 @@ use borrow.Author.Needs.{needs}
 use native.Mathlib.Omega.{arith}
 use lib.ListN.{length, length-replicate}
 use Rattle.algebra.specs.Sequence.{at}
-use Rattle.algebra.proofs.Sequence.{at-zeros}
+use Rattle.algebra.proofs.At.{at-zeros}
 use Rattle.field.specs.Field.{q}
 use Rattle.field.proofs.Elem.{zero-below}
-use Rattle.interpolation.proofs.Rows.{symbol-below}
-use Rattle.interpolation.proofs.Uniqueness.{kept-enough, interpolated}
+use Rattle.interpolation.proofs.Marks.{masked-below, kept-enough}
+use Rattle.interpolation.proofs.Uniqueness.{interpolated}
 use Rattle.interpolation.proofs.interpolate.Statement.{statement}
 use Rattle.interpolation.proofs.interpolate.Tie as tie
 
@@ -27,7 +27,7 @@ settle-requires c κs =
       s .pre .0,
       s .pre .2,
       record { below = s .pre .3; differ = s .pre .4 },
-      λ p h. rw (d .ensures .put p (omega arith) h) (symbol-below (q (a .field)) (at (a .word .now) p) (at (a .marks .now) p) (zero-below (a .field)) (s .pre .5 p h)),
+      λ p h. rw (d .ensures .put p (omega arith) h) (masked-below (q (a .field)) (at (a .word .now) p) (at (a .marks .now) p) (zero-below (a .field)) (s .pre .5 p h)),
       kept-enough (a .marks .now) (a .n) (a .most) (s .pre .6),
       s .pre .7,
       s .pre .8,

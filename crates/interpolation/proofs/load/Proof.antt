@@ -1,22 +1,19 @@
-use mathlib.Core.Path.{_≡_}
-use Prim.Native.Nat.{_-_, _≤_}
+use Prim.Native.Nat.{_-_}
 use native.Mathlib.Omega.{arith}
 use Rattle.algebra.specs.Sequence.{at}
-use Rattle.interpolation.specs.Newton.{Written, symbol}
-use Rattle.interpolation.proofs.Rows.{written-none, written-more}
+use Rattle.algebra.proofs.Writing.{Writing, writing-none, writing-more, writing-done}
+use Rattle.interpolation.specs.Interpolated.{masked}
 use Rattle.interpolation.proofs.load.Statement.{statement}
 use Rattle.interpolation.proofs.load.Tie as tie
 
 abbrev Inv-loop : tie.InvT-loop
-Inv-loop word marks n rests₀ p₀ rests p = (p ≤ n) × Written (λ i. symbol (at word i) (at marks i)) 0 p rests₀ rests
+Inv-loop word marks n rests₀ p₀ rests p = Writing (λ i. masked (at word i) (at marks i)) 0 n p rests₀ rests
 
 abbrev μ-loop : tie.MeasureT-loop
 μ-loop word marks n rests₀ p₀ rests p = n - p
 
 loop-holds : tie.Need-loop-holds Inv-loop μ-loop
-loop-holds c =
-    let a = c .before .before .args in
-    (omega arith, written-none (λ i. symbol (at (a .word .now) i) (at (a .marks .now) i)) 0 (a .rests .now))
+loop-holds c = writing-none (omega arith)
 
 symbol-at-requires : tie.Need-symbol-at-requires Inv-loop μ-loop
 symbol-at-requires c κs = (omega arith, λ _. omega arith)
@@ -32,19 +29,11 @@ loop-less c = omega arith
 
 loop-again : tie.Need-loop-again Inv-loop μ-loop
 loop-again c =
-    let l = c .before .before .loop in
     let s = c .before .before .before .before .before in
-    let a = s .args in (
-      omega arith,
-      written-more (λ i. symbol (at (a .word .now) i) (at (a .marks .now) i)) 0 (l .p) (c .symbol-at .result) (a .rests .now) (l .rests) (omega arith)
-          (omega (arith, l .inv .1 .size, s .pre .0)) (c .symbol-at .ensures) (l .inv .1),
-    )
+    writing-more (c .before .loop-test .taken) (omega (arith, s .pre .0)) (c .symbol-at .ensures) (c .before .before .loop .inv)
 
 returns : tie.Need-returns Inv-loop μ-loop
-returns c =
-    let l = c .before .loop in
-    let e : l .p ≡ c .before .before .before .before .args .n = omega arith in
-    rw e at (l .inv .1)
+returns c = writing-done (c .loop-test .left) (c .before .loop .inv)
 
 pub load-spec : {M : Type 1} → statement M
 load-spec =

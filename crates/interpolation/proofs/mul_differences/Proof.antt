@@ -1,24 +1,21 @@
-use mathlib.Core.Path.{_≡_, ap₂, _∙_}
-use Prim.Native.Nat.{_-_, _≤_}
+use mathlib.Core.Path.{ap₂, _∙_}
+use Prim.Native.Nat.{_-_}
 use borrow.Author.Needs.{needs}
 use native.Mathlib.Omega.{arith}
 use Rattle.algebra.specs.Sequence.{at}
+use Rattle.algebra.proofs.Writing.{Writing, writing-none, writing-more, writing-done}
 use Rattle.field.specs.Field.{minus, times}
-use Rattle.interpolation.specs.Newton.{Written}
-use Rattle.interpolation.proofs.Rows.{written-none, written-more}
 use Rattle.interpolation.proofs.mul_differences.Statement.{statement}
 use Rattle.interpolation.proofs.mul_differences.Tie as tie
 
 abbrev Inv-loop : tie.InvT-loop
-Inv-loop field values₀ points from to y p₀ values p = (from ≤ p) × (p ≤ to) × Written (λ i. times field (minus field (at points i) y) (at values₀ i)) from p values₀ values
+Inv-loop field values₀ points from to y p₀ values p = Writing (λ i. times field (minus field (at points i) y) (at values₀ i)) from to p values₀ values
 
 abbrev μ-loop : tie.MeasureT-loop
 μ-loop field values₀ points from to y p₀ values p = to - p
 
 loop-holds : tie.Need-loop-holds Inv-loop μ-loop
-loop-holds c =
-    let a = c .args in
-    (omega arith, omega arith, written-none (λ i. times (a .field) (minus (a .field) (at (a .points .now) i) (a .y)) (at (a .values .now) i)) (a .from) (a .values .now))
+loop-holds c = writing-none (omega arith)
 
 element-copy-out-sub : tie.Need-element-copy-out-sub Inv-loop μ-loop
 element-copy-out-sub c = omega arith
@@ -45,19 +42,11 @@ loop-again : tie.Need-loop-again Inv-loop μ-loop
 loop-again c =
     let l = c .before .before .before .before .before .loop in
     let s = c .before .before .before .before .before .before in
-    let a = s .args in
-    let d = l .inv .2 .behind (l .p) (omega arith) in (
-      omega arith,
-      omega arith,
-      written-more (λ i. times (a .field) (minus (a .field) (at (a .points .now) i) (a .y)) (at (a .values .now) i)) (a .from) (l .p) (c .product .result) (a .values .now) (l .values) (omega arith) (omega (arith, l .inv .2 .size, s .pre .0))
-          (c .product .ensures ∙ ap₂ (times (a .field)) (c .before .before .sub .ensures) d) (l .inv .2),
-    )
+    writing-more (c .before .before .before .before .loop-test .taken) (omega (arith, s .pre .0))
+    (c .product .ensures ∙ ap₂ (times (s .args .field)) (c .before .before .sub .ensures) (l .inv .done .behind (l .p) (omega arith))) (l .inv)
 
 returns : tie.Need-returns Inv-loop μ-loop
-returns c =
-    let l = c .before .loop in
-    let e : l .p ≡ c .before .before .args .to = omega arith in
-    rw e at (l .inv .2)
+returns c = writing-done (c .loop-test .left) (c .before .loop .inv)
 
 pub mul-differences-spec : {M : Type 1} → statement M
 mul-differences-spec =

@@ -1,7 +1,7 @@
 use Prim.Native.Nat.{_-_}
 use borrow.Author.Needs.{needs}
 use Rattle.field.specs.Field.{minus}
-use Rattle.interpolation.proofs.Rows.{multiplied}
+use Rattle.interpolation.proofs.Shifting.{multiplied}
 use Rattle.interpolation.proofs.mul_linear.Statement.{statement}
 use Rattle.interpolation.proofs.mul_linear.Tie as tie
 

@@ -1,8 +1,8 @@
 use Prim.Native.Nat.{_-_, _≤_, _<_}
 use borrow.Author.Needs.{needs}
 use native.Mathlib.Omega.{arith}
-use Rattle.algebra.proofs.Sequence.{count-most}
-use Rattle.interpolation.specs.Newton.{kept, Rooms, Newton}
+use Rattle.algebra.proofs.Counting.{count-most}
+use Rattle.interpolation.specs.Step.{kept, Rooms, Newton}
 use Rattle.interpolation.proofs.Settling.{count-step, enough, begun, settled}
 use Rattle.interpolation.proofs.settle.Statement.{statement}
 use Rattle.interpolation.proofs.settle.Tie as tie

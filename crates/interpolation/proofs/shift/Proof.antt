@@ -3,8 +3,8 @@ use Prim.Native.Nat.{_+_, _-_, _≤_}
 use native.Mathlib.Omega.{arith}
 use lib.ListN.{length, length-set}
 use Rattle.algebra.specs.Sequence.{at}
-use Rattle.interpolation.specs.Newton.{Shifted}
-use Rattle.interpolation.proofs.Rows.{shifted-none, shifted-more}
+use Rattle.interpolation.specs.Step.{Shifted}
+use Rattle.interpolation.proofs.Shifting.{shifted-none, shifted-more}
 use Rattle.interpolation.proofs.shift.Statement.{statement}
 use Rattle.interpolation.proofs.shift.Tie as tie
 

@@ -1,7 +1,7 @@
 use mathlib.Core.Path.{sym}
 use borrow.Author.Needs.{needs}
 use Rattle.algebra.specs.Sequence.{at}
-use Rattle.interpolation.proofs.Rows.{symbol-lost, symbol-kept}
+use Rattle.interpolation.proofs.Marks.{masked-lost, masked-kept}
 use Rattle.interpolation.proofs.symbol_at.Statement.{statement}
 use Rattle.interpolation.proofs.symbol_at.Tie as tie
 
@@ -11,7 +11,7 @@ shared-slice-read-if1 c = search needs
 returns : tie.Need-returns
 returns c =
     let a = c .before .before .args in
-    sym (symbol-lost (at (a .word .now) (a .p)) (at (a .marks .now) (a .p)) (c .if1 .taken))
+    sym (masked-lost (at (a .word .now) (a .p)) (at (a .marks .now) (a .p)) (c .if1 .taken))
 
 -- a kept place is in the word
 shared-slice-read-result : tie.Need-shared-slice-read-result
@@ -20,7 +20,7 @@ shared-slice-read-result c = c .before .before .before .pre .1 (c .before .if1 .
 returns-2 : tie.Need-returns-2
 returns-2 c =
     let a = c .before .before .before .args in
-    sym (symbol-kept (at (a .word .now) (a .p)) (at (a .marks .now) (a .p)) (c .before .if1 .left))
+    sym (masked-kept (at (a .word .now) (a .p)) (at (a .marks .now) (a .p)) (c .before .if1 .left))
 
 pub symbol-at-spec : {M : Type 1} → statement M
 symbol-at-spec =

@@ -29,23 +29,14 @@ returns c =
     let e : c .before .before .before .before .before .before .before .before .before .before .before .args .r ≡ 2 = omega arith in
     rw e (c .before .before .combine-roots .ensures)
 
-combine-short-requires : tie.Need-combine-short-requires
-combine-short-requires c κs = search needs
+combine-any-requires : tie.Need-combine-any-requires
+combine-any-requires c κs = search needs
 
 same-length-2 : tie.Need-same-length-2
 same-length-2 c = search needs
 
 returns-2 : tie.Need-returns-2
 returns-2 c = search needs
-
-combine-long-requires : tie.Need-combine-long-requires
-combine-long-requires c κs = search needs
-
-same-length-3 : tie.Need-same-length-3
-same-length-3 c = search needs
-
-returns-3 : tie.Need-returns-3
-returns-3 c = search needs
 
 pub combine-spec : {M : Type 1} → statement M
 combine-spec =
@@ -57,9 +48,6 @@ combine-spec =
     combine-roots-requires
     same-length
     returns
-    combine-short-requires
+    combine-any-requires
     same-length-2
-    returns-2
-    combine-long-requires
-    same-length-3
-    returns-3)
+    returns-2)

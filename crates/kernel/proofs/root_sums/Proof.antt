@@ -5,7 +5,7 @@ use native.Mathlib.Omega.{arith}
 use lib.ListN.{length}
 use Rattle.algebra.specs.Sequence.{at}
 use Rattle.algebra.proofs.Filling.{Filled, filled-none, filled-more, filled-all}
-use Rattle.kernel.specs.Pair.{root-sum}
+use Rattle.kernel.specs.Step.{root-sum}
 use Rattle.kernel.proofs.Roots.{root-sum-is}
 use Rattle.kernel.proofs.root_sums.Statement.{statement}
 use Rattle.kernel.proofs.root_sums.Tie as tie

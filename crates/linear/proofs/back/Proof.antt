@@ -3,7 +3,7 @@ use Prim.Native.Nat.{_+_, _-_}
 use borrow.Author.Needs.{needs}
 use native.Mathlib.Omega.{arith}
 use lib.ListN.{length, length-set}
-use Rattle.linear.proofs.Rows.{row-step}
+use Rattle.algebra.proofs.Strides.{row-step}
 use Rattle.linear.proofs.Substitution.{Backing, backing-none, backing-more, backed}
 use Rattle.linear.proofs.back.Statement.{statement}
 use Rattle.linear.proofs.back.Tie as tie

@@ -3,8 +3,8 @@ use mathlib.Core.Logic.{_≢_}
 use Prim.Native.Nat.{ℕ, _+_, _-_, _≤_, _<_}
 use native.Mathlib.Omega.{arith}
 use borrow.Author.Count.{below-more}
+use Rattle.algebra.proofs.Strides.{row-step}
 use Rattle.linear.specs.System.{entry}
-use Rattle.linear.proofs.Rows.{row-step}
 use Rattle.linear.proofs.bare.Statement.{statement}
 use Rattle.linear.proofs.bare.Tie as tie
 use Rattle.linear.proofs.bare.Reads as reads

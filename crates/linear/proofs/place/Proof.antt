@@ -2,7 +2,7 @@ use mathlib.Core.Path.{_≡_, refl, _∙_}
 use Prim.Native.Nat.{_-_, _≤_}
 use native.Mathlib.Omega.{arith}
 use lib.ListN.{length}
-use Rattle.linear.specs.Buffer.{Ready, Same}
+use Rattle.linear.specs.Step.{Ready, Same-solutions}
 use Rattle.linear.proofs.Elimination.{same-none, same-more, ready-more, placed-in, placed-none, placed-never}
 use Rattle.linear.proofs.place.Statement.{statement}
 use Rattle.linear.proofs.place.Tie as tie
@@ -11,7 +11,7 @@ use Rattle.linear.proofs.place.Lts as lts
 use Rattle.linear.proofs.step.Reads as step-reads
 
 abbrev Inv-loop : tie.InvT-loop
-Inv-loop field work₀ k powers logs j₀ work j = (j ≤ k) × (length work ≡ length work₀) × Ready field k j work × Same field k work₀ work
+Inv-loop field work₀ k powers logs j₀ work j = (j ≤ k) × (length work ≡ length work₀) × Ready field k j work × Same-solutions field k work₀ work
 
 abbrev μ-loop : tie.MeasureT-loop
 μ-loop field work₀ k powers logs j₀ work j = k - j

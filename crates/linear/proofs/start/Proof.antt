@@ -1,5 +1,4 @@
 use borrow.Author.Needs.{needs}
-use native.Mathlib.Omega.{arith}
 use Rattle.linear.proofs.start.Statement.{statement}
 use Rattle.linear.proofs.start.Tie as tie
 

@@ -1,6 +1,7 @@
 use Prim.Native.Nat.{_+_, _*_, _≤_}
 use native.Mathlib.Omega.{arith}
-use Rattle.linear.proofs.Rows.{row-step, rows-apart}
+use Rattle.algebra.proofs.Strides.{row-step}
+use Rattle.linear.proofs.Rows.{rows-apart}
 use Rattle.linear.proofs.Elimination.{skipped, reduced, joined}
 use borrow.Author.Needs.{needs}
 use Rattle.linear.proofs.step.Statement.{statement}

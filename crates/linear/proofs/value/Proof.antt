@@ -4,7 +4,7 @@ use Prim.Native.Nat.{_+_, _*_, _-_}
 use native.Mathlib.Omega.{arith}
 use lib.ListN.{length, take, drop}
 use Rattle.field.specs.Field.{plus}
-use Rattle.linear.proofs.Elements.{dotted-take, dotted-stop}
+use Rattle.field.proofs.Products.{dotted-take, dotted-stop}
 use Rattle.linear.specs.System.{entry, residue}
 use Rattle.linear.proofs.value.Statement.{statement}
 use Rattle.linear.proofs.value.Tie as tie

@@ -3,7 +3,7 @@ use mathlib.Core.Path.{ap, _∙_}
 use native.Mathlib.Omega.{arith}
 use lib.ListN.{length}
 use Rattle.algebra.specs.Sequence.{count}
-use Rattle.algebra.proofs.Sequence.{count-most}
+use Rattle.algebra.proofs.Counting.{count-most}
 use Rattle.code.specs.Decoding.{lost}
 use Rattle.code.specs.Erasure.{lost-number}
 use Rattle.code.proofs.Bounds.{n-most}

@@ -4,8 +4,7 @@ use Prim.Native.Nat.{ℕ, _+_, _-_, _≤_, _<_}
 use native.Mathlib.Omega.{arith}
 use lib.ListN.{length}
 use Rattle.algebra.specs.Sequence.{count}
-use Rattle.algebra.proofs.Sequence.{count-most}
-use Rattle.algebra.proofs.Counting.{count-zero}
+use Rattle.algebra.proofs.Counting.{count-zero, count-most}
 use Rattle.algebra.proofs.Filling.{Filled, filled-none, filled-all}
 use Rattle.algebra.proofs.Splicing.{splice}
 use Rattle.code.specs.declared.Shape.{Shape}

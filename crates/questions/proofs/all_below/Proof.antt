@@ -5,7 +5,8 @@ use native.Mathlib.Omega.{arith}
 use native.Mathlib.Decide.{ℕ-discrete}
 use lib.ListN.{length}
 use Rattle.algebra.specs.Sequence.{at, all-below}
-use Rattle.algebra.proofs.Sequence.{yes-true, all-below-intro, all-below-not}
+use Rattle.algebra.proofs.Booleans.{yes-true}
+use Rattle.algebra.proofs.Below.{all-below-intro, all-below-not}
 use Rattle.questions.proofs.all_below.Statement.{statement}
 use Rattle.questions.proofs.all_below.Tie as tie
 

@@ -5,9 +5,8 @@ use native.Mathlib.Omega.{arith}
 use lib.ListN.{length}
 use borrow.Author.Tests.{eq-eqb, ne-eqb}
 use Rattle.algebra.specs.Sequence.{at, count}
-use Rattle.algebra.proofs.Sequence.{count-most}
+use Rattle.algebra.proofs.Counting.{count-zero, count-yes, count-no, count-most}
 use Rattle.code.specs.Decoding.{lost}
-use Rattle.algebra.proofs.Counting.{count-zero, count-yes, count-no}
 use Rattle.questions.proofs.losses_in.Statement.{statement}
 use Rattle.questions.proofs.losses_in.Tie as tie
 

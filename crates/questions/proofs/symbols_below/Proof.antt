@@ -9,9 +9,9 @@ use lib.Dec.{T, ltb, eqb, lt→ltb}
 use lib.ListN.{length}
 use borrow.Author.Tests.{le-ltb, eq-eqb, ne-eqb}
 use Rattle.algebra.specs.Sequence.{at, every}
-use Rattle.algebra.proofs.Sequence.{so, yes-true, every-intro, every-not}
+use Rattle.algebra.proofs.Booleans.{so, yes-true, or-left, or-right}
+use Rattle.algebra.proofs.Every.{every-intro, every-not}
 use Rattle.code.specs.Decoding.{lost}
-use Rattle.algebra.proofs.Counting.{or-left, or-right}
 use Rattle.questions.proofs.symbols_below.Statement.{statement}
 use Rattle.questions.proofs.symbols_below.Tie as tie
 

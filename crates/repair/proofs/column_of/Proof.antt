@@ -3,8 +3,7 @@ use Prim.Native.Nat.{_+_, _*_, _-_, _≤_, _<_}
 use native.Mathlib.Omega.{arith}
 use lib.Arith.{digits-lt}
 use lib.ListN.{replicate}
-use Rattle.algebra.specs.Sequence.{at}
-use Rattle.code.specs.Repair.{column}
+use Rattle.algebra.specs.Sequence.{at, column}
 use Rattle.repair.proofs.Columns.{length-column, at-column}
 use Rattle.algebra.proofs.Filling.{Filled, filled-none, filled-more}
 use Rattle.repair.proofs.Sixteen.{sixteen-of}

@@ -3,9 +3,9 @@ use mathlib.Core.List.{List}
 use Prim.Native.Nat.{ℕ, _-_, _≤_}
 use native.Mathlib.Omega.{arith}
 use lib.ListN.{length, take}
+use Rattle.algebra.specs.Sequence.{column}
 use Rattle.algebra.proofs.Filling.{Filled, filled-none, filled-more, filled-all}
 use Rattle.field.specs.Polynomial.{dotted}
-use Rattle.code.specs.Repair.{column}
 use Rattle.repair.proofs.Columns.{length-column}
 use Rattle.repair.proofs.Sixteen.{length-sixteen, take-sixteen}
 use Rattle.repair.proofs.plain_columns.Statement.{statement}

@@ -6,8 +6,7 @@ use borrow.Author.Tests.{not-true, not-false}
 use Rattle.algebra.specs.Sequence.{every}
 use Rattle.words.specs.Word.{slot-fits}
 use Rattle.sheet.specs.Sheet.{middle-word}
-use Rattle.algebra.proofs.Sequence.{every-not}
-use Rattle.algebra.proofs.Counting.{every-none, every-more, every-done}
+use Rattle.algebra.proofs.Every.{every-not, every-none, every-more, every-done}
 use Rattle.sheet.proofs.slots_fit.Statement.{statement}
 use Rattle.sheet.proofs.slots_fit.Tie as tie
 

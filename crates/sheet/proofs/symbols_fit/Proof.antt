@@ -7,8 +7,7 @@ use borrow.Author.Tests.{lt-ltb, le-ltb}
 use Rattle.algebra.specs.Sequence.{every}
 use Rattle.words.specs.Word.{word-symbol}
 use Rattle.sheet.specs.Sheet.{middle-word}
-use Rattle.algebra.proofs.Sequence.{every-not}
-use Rattle.algebra.proofs.Counting.{every-none, every-more, every-done}
+use Rattle.algebra.proofs.Every.{every-not, every-none, every-more, every-done}
 use Rattle.sheet.proofs.symbols_fit.Statement.{statement}
 use Rattle.sheet.proofs.symbols_fit.Tie as tie
 

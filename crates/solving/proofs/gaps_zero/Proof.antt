@@ -8,7 +8,7 @@ use native.Mathlib.Omega.{arith}
 use borrow.Author.Tests.{eq-eqb, ne-eqb}
 use lib.Dec.{eqb}
 use Rattle.algebra.specs.Sequence.{at, every}
-use Rattle.algebra.proofs.Sequence.{every-not}
+use Rattle.algebra.proofs.Every.{every-not}
 use Rattle.solving.specs.Step.{gap, gaps-zero}
 use Rattle.solving.proofs.Interpolating.{gap-room, gaps-few}
 use Rattle.solving.proofs.gaps_zero.Statement.{statement}
