@@ -52,15 +52,15 @@ fn rebuilds(code: Code, slot: u32, strips: &[u8], output: &mut [u8]) {
 
 // Looks at a slot's group in a word.
 fn views(code: Code, slot: u32, word: &[u8]) {
-    let refusal = groups::group_view_refusal(code, slot, word);
+    let refusal = view::group_view_refusal(code, slot, word);
     head(b"view ", code);
     show::put(refusal);
-    show::put_line(groups::group_view(code, slot, word));
+    show::put_line(view::group_view(code, slot, word));
 }
 
 // Mends every group with exactly one loss.
 fn passes(code: Code, word: &mut [u8], marks: &mut [u8]) {
-    let answer = groups::local_pass(code, word, marks);
+    let answer = pass::local_pass(code, word, marks);
     head(b"pass ", code);
     show::put(answer.refusal);
     show::put(answer.value);

@@ -10,7 +10,7 @@ fn number_of(a: u8, b: u8, c: u8, d: u8) -> u32 {
 }
 
 // The number at a place, or 0 past the end.
-pub fn number(record: &[u8], at: usize) -> u32 {
+fn number(record: &[u8], at: usize) -> u32 {
     if record.len() < 4 {
         return 0;
     }
@@ -181,7 +181,7 @@ fn after_at(record: &[u8], i: usize) -> usize {
 }
 
 // The length of buffer i of bytes, at most so many; 0 where there is none.
-pub fn length_of(record: &[u8], i: usize, most: usize) -> usize
+fn length_of(record: &[u8], i: usize, most: usize) -> usize
     ensures { λ x. ⌜ x ≤ most ⌝ }
 {
     if i < narrow(record) {
@@ -191,7 +191,7 @@ pub fn length_of(record: &[u8], i: usize, most: usize) -> usize
 }
 
 // The length of the buffer of numbers, at most so many; 0 where there is none.
-pub fn numbers_of(record: &[u8], most: usize) -> usize
+fn length_of_numbers(record: &[u8], most: usize) -> usize
     ensures { λ x. ⌜ x ≤ most ⌝ }
 {
     let i = narrow(record);
@@ -201,36 +201,144 @@ pub fn numbers_of(record: &[u8], most: usize) -> usize
     0
 }
 
+// The call, and the five numbers that it is made with.
+pub struct Call {
+    pub number: u32,
+    pub field: u32,
+    pub r: u32,
+    pub n: u32,
+    pub k: u32,
+    pub slot: u32,
+}
+
+// The call of a record.
+pub fn call_of(record: &[u8]) -> Call {
+    Call {
+        number: number(record, 0),
+        field: number(record, 4),
+        r: number(record, 8),
+        n: number(record, 12),
+        k: number(record, 16),
+        slot: number(record, 20),
+    }
+}
+
 // The refusal high, the value low.
 pub fn pair(refusal: u32, value: u32) -> u64 {
     refusal as u64 * 0x1_0000_0000 + value as u64
 }
 
 // The answer that the record gives.
-pub fn wanted_answer(record: &[u8]) -> u64 {
+fn wanted_answer(record: &[u8]) -> u64 {
     let at = answer_at(record);
     pair(number(record, at), number(record, at + 4))
 }
 
-// Fills buffer i of bytes with what it holds before the call.
-pub fn fill_bytes(record: &[u8], i: usize, buffer: &mut [u8]) {
-    fill(record, before_at(record, i), buffer);
+// Buffer i of bytes as it is before the call, with room behind it.
+pub fn bytes_of(record: &[u8], i: usize) -> [u8; 65600] {
+    let mut room = [0u8; 65600];
+    let length = length_of(record, i, 65600);
+    fill(record, before_at(record, i), &mut room[..length]);
+    room
 }
 
-// Fills the buffer of numbers with what it holds before the call.
-pub fn fill_numbers(record: &[u8], buffer: &mut [u32]) {
-    fill_wide(record, before_at(record, narrow(record)), buffer);
+// Buffer i of bytes in the room that holds it.
+pub fn front<'a>(record: &[u8], i: usize, room: &'a mut [u8]) -> &'a mut [u8] {
+    let length = length_of(record, i, room.len());
+    &mut room[..length]
+}
+
+// Buffer i of bytes in the room that holds it, for a call that only reads it.
+pub fn front_read<'a>(record: &[u8], i: usize, room: &'a [u8]) -> &'a [u8] {
+    let length = length_of(record, i, room.len());
+    &room[..length]
+}
+
+// The buffer of numbers as it is before the call, with room behind it.
+pub fn numbers_of(record: &[u8]) -> [u32; 32] {
+    let mut room = [0u32; 32];
+    fill_wide(record, before_at(record, narrow(record)), &mut room);
+    room
+}
+
+// The buffer of numbers in the room that holds it.
+pub fn front_numbers<'a>(record: &[u8], room: &'a mut [u32]) -> &'a mut [u32] {
+    let length = length_of_numbers(record, room.len());
+    &mut room[..length]
 }
 
 // Whether buffer i of bytes is what it should be after the call.
-pub fn same_bytes(record: &[u8], i: usize, buffer: &[u8]) -> bool {
+fn same_bytes(record: &[u8], i: usize, buffer: &[u8]) -> bool {
     same(record, before_at(record, i), after_at(record, i), buffer)
 }
 
+// Whether the answer and the only buffer are what they should be after the call.
+pub fn agrees_one(record: &[u8], answer: u64, a: &[u8]) -> bool {
+    if answer != wanted_answer(record) {
+        return false;
+    }
+    same_bytes(record, 0, a)
+}
+
+// Whether the answer and two buffers are what they should be after the call.
+pub fn agrees_two(record: &[u8], answer: u64, a: &[u8], b: &[u8]) -> bool {
+    if !agrees_one(record, answer, a) {
+        return false;
+    }
+    same_bytes(record, 1, b)
+}
+
+// Whether the answer and three buffers are what they should be after the call.
+pub fn agrees_three(record: &[u8], answer: u64, a: &[u8], b: &[u8], c: &[u8]) -> bool {
+    if !agrees_two(record, answer, a, b) {
+        return false;
+    }
+    same_bytes(record, 2, c)
+}
+
+// Whether the answer and four buffers are what they should be after the call.
+pub fn agrees_four(record: &[u8], answer: u64, a: &[u8], b: &[u8], c: &[u8], d: &[u8]) -> bool {
+    if !agrees_three(record, answer, a, b, c) {
+        return false;
+    }
+    same_bytes(record, 3, d)
+}
+
 // Whether the buffer of numbers is what it should be after the call.
-pub fn same_numbers(record: &[u8], buffer: &[u32]) -> bool {
+fn same_numbers(record: &[u8], numbers: &[u32]) -> bool {
     let i = narrow(record);
-    same_wide(record, before_at(record, i), after_at(record, i), buffer)
+    same_wide(record, before_at(record, i), after_at(record, i), numbers)
+}
+
+// Whether the answer and the buffers of a call of read_sheet are what they should be.
+pub fn agrees_sheet(
+    record: &[u8],
+    answer: u64,
+    a: &[u8],
+    b: &[u8],
+    c: &[u8],
+    numbers: &[u32],
+) -> bool {
+    if !agrees_three(record, answer, a, b, c) {
+        return false;
+    }
+    same_numbers(record, numbers)
+}
+
+// Whether the answer and the buffers of a call of record are what they should be.
+pub fn agrees_record(
+    record: &[u8],
+    answer: u64,
+    a: &[u8],
+    b: &[u8],
+    c: &[u8],
+    d: &[u8],
+    numbers: &[u32],
+) -> bool {
+    if !agrees_four(record, answer, a, b, c, d) {
+        return false;
+    }
+    same_numbers(record, numbers)
 }
 
 // The place of the record after the one at a place, at most the end.
@@ -263,4 +371,9 @@ pub fn record_at(input: &[u8], at: usize) -> &[u8]
         return &input[..0];
     }
     &input[start..start + size]
+}
+
+// Room for the records.
+pub fn room() -> [u8; 262144] {
+    [0u8; 262144]
 }

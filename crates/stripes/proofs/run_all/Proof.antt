@@ -7,10 +7,10 @@ use Rattle.stripes.proofs.run_all.Statement.{statement}
 use Rattle.stripes.proofs.run_all.Tie as tie
 
 abbrev Inv-loop : tie.InvT-loop
-Inv-loop input calls₀ wrong₀ at₀ calls wrong at = (length calls ≡ length calls₀) × (length wrong ≡ length wrong₀) × (at ≤ length input)
+Inv-loop input counts₀ at₀ counts at = (length counts ≡ length counts₀) × (at ≤ length input)
 
 abbrev μ-loop : tie.MeasureT-loop
-μ-loop input calls₀ wrong₀ at₀ calls wrong at = length input - at
+μ-loop input counts₀ at₀ counts at = length input - at
 
 loop-holds : tie.Need-loop-holds Inv-loop μ-loop
 loop-holds c = search needs
@@ -18,8 +18,14 @@ loop-holds c = search needs
 record-at-requires : tie.Need-record-at-requires Inv-loop μ-loop
 record-at-requires c κs = search needs
 
-count-run-requires : tie.Need-count-run-requires Inv-loop μ-loop
-count-run-requires c κs = search needs
+call-of-requires : tie.Need-call-of-requires Inv-loop μ-loop
+call-of-requires c κs = search needs
+
+run-requires : tie.Need-run-requires Inv-loop μ-loop
+run-requires c κs = search needs
+
+count-requires : tie.Need-count-requires Inv-loop μ-loop
+count-requires c κs = search needs
 
 next-record-requires : tie.Need-next-record-requires Inv-loop μ-loop
 next-record-requires c κs = search needs
@@ -33,9 +39,6 @@ loop-again c = search needs
 same-length : tie.Need-same-length Inv-loop μ-loop
 same-length c = search needs
 
-same-length-2 : tie.Need-same-length-2 Inv-loop μ-loop
-same-length-2 c = search needs
-
 returns : tie.Need-returns Inv-loop μ-loop
 returns c = search needs
 
@@ -47,10 +50,11 @@ run-all-spec =
     μ-loop
     loop-holds
     record-at-requires
-    count-run-requires
+    call-of-requires
+    run-requires
+    count-requires
     next-record-requires
     loop-less
     loop-again
     same-length
-    same-length-2
     returns)
