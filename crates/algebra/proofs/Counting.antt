@@ -4,11 +4,10 @@
 --   count-most                         no more than there are numbers
 --   count-add, count-mono              the numbers below a, and b more
 --   count-same, count-split            two tests that agree; two of which one holds everywhere
---   count-and                          a test joined to one that does not depend on the number
 --   count-some, count-one              one that passes, and the only one
 use mathlib.Core.Path.{_≡_, refl, sym, ap, ap₂, _∙_}
 use mathlib.Core.Logic.{_≢_}
-use mathlib.Core.Bool.{Bool, true, false, cond, _&&_, _||_}
+use mathlib.Core.Bool.{Bool, true, false, cond, _||_}
 use Prim.Native.Nat.{ℕ, zero, suc, _+_, _-_, _≤_, _<_, zero-le}
 use native.Mathlib.Nat.{add-zero, add-suc, le-refl, not-suc-le-zero}
 use native.Mathlib.Decide.{ℕ-discrete, decLt}
@@ -74,19 +73,6 @@ count-split s t (suc n) h = go (s n) (t n) (h n (le-refl (suc n))) (count-split 
     go true b o l = omega arith
     go false true o l = omega arith
     go false false o l = absurd o
-
--- a test joined to one that does not depend on the number
-pub count-and : (t : ℕ → Bool) (s : Bool) (n : ℕ) → count (λ i. t i && s) n ≡ cond s (count t n) 0
-count-and t true n = count-same (λ i. t i && true) t n (λ i h. and-true (t i))
-  where
-    and-true : (a : Bool) → a && true ≡ a
-    and-true true = refl
-    and-true false = refl
-count-and t false n = count-none (λ i. t i && false) n (λ i h. and-false (t i))
-  where
-    and-false : (a : Bool) → a && false ≡ false
-    and-false true = refl
-    and-false false = refl
 
 -- one that passes, and two that do
 pub count-some : (t : ℕ → Bool) (n i : ℕ) → i < n → t i ≡ true → 1 ≤ count t n

@@ -1,7 +1,7 @@
 -- Packed answers. Assumes nothing.
 --   unpacked-packed     an answer packed and unpacked again
 use mathlib.Core.Path.{_≡_, ap₂}
-use Prim.Native.Nat.{ℕ, _+_, _*_, _<_}
+use Prim.Native.Nat.{_+_, _*_, _<_}
 use native.Mathlib.Omega.{arith}
 use Rattle.code.specs.declared.Answer.{Answer}
 use Rattle.binding.specs.Pack.{unpacked}

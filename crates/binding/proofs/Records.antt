@@ -1,7 +1,7 @@
 -- What the C function for a stripe's record answers and writes. Assumes nothing.
 --   record-no, record-yes       what follows from the call's answer
 --   room                        the record has nine numbers where the call does not refuse
-use mathlib.Core.Path.{_≡_, refl, sym, _∙_}
+use mathlib.Core.Path.{_≡_, refl, _∙_}
 use mathlib.Core.Logic.{_≢_}
 use mathlib.Core.List.{List}
 use Prim.Native.Nat.{ℕ, zero, suc}

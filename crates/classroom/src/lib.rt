@@ -2,12 +2,11 @@
 ghost use mathlib.Core.Path.{_≡_};
 ghost use Prim.Native.Nat.{_≤_};
 ghost use lib.ListN.{length};
-ghost use Rattle.code.specs.Code.{code-refusal};
+ghost use Rattle.code.specs.Laws.{Decodable};
 use code::Code;
+use code::Shape;
 use console::text;
 use console::words;
-
-mod lines;
 
 // What stands in front of the text: the sheet (status 0), or a sentence on what is wrong with the input (status 1).
 pub struct Written {
@@ -68,42 +67,50 @@ fn first_large(message: &[u8]) -> usize
     i
 }
 
-// Puts the sheet of an accepted code and a message, or the sentence of the message's refusal.
-fn put_message(text: &mut [u8], input: &[u8], code: Code, message: &[u8]) -> Written
-    requires { ⌜ (code-refusal code ≡ 0) × (code .field ≡ 0) × (length (now message) ≤ 16) ⌝ }
+// Puts the sheet of a shape over thirteen and a message, or the sentence of the message's refusal.
+fn put_message(text: &mut [u8], input: &[u8], shape: Shape, message: &[u8]) -> Written
+    requires { ⌜ Decodable shape × (shape .field ≡ 0) × (length (now message) ≤ 16) ⌝ }
 {
     let mut codeword = [0u8; 12];
-    let front = &mut codeword[..code.n as usize];
-    let refusal = encode::encode(code, message, front);
+    let front = &mut codeword[..shape.n as usize];
+    let refusal = encode::encode_with(0, shape, message, front);
     if refusal == 5 {
-        return refuse_length(text, message.len(), code.k);
+        return refuse_length(text, message.len(), shape.k);
     }
     if refusal != 0 {
         let i = first_large(message);
         return refuse(text, input, 3 + i, b"a symbol is from 0 to 12 (refusal 6)");
     }
-    let len = lines::put_sheet(text, code, message, front);
+    let len = lesson::put_sheet(text, shape, message, front);
     Written { status: 0, len }
+}
+
+// The code over thirteen of the numbers r, n and k.
+fn code_of(numbers: &[u8]) -> Code
+    requires { ⌜ length (now numbers) ≡ 16 ⌝ }
+    ensures { λ x. ⌜ x .field ≡ 0 ⌝ }
+{
+    Code {
+        field: 0,
+        r: text::wide(numbers[0]),
+        n: text::wide(numbers[1]),
+        k: text::wide(numbers[2]),
+    }
 }
 
 // Puts the sheet of the numbers r, n, k and the message, or the sentence of their refusal.
 fn put_numbers(text: &mut [u8], input: &[u8], numbers: &[u8], count: usize) -> Written
     requires { ⌜ (3 ≤ count) × (length (now numbers) ≡ 16) ⌝ }
 {
-    let code = Code {
-        field: 0,
-        r: text::wide(numbers[0]),
-        n: text::wide(numbers[1]),
-        k: text::wide(numbers[2]),
-    };
-    let refusal = code::code_refusal(code);
+    let code = code_of(numbers);
+    let refusal = layout::code_refusal(code);
     if refusal != 0 {
         return refuse_code(text, input, refusal);
     }
     if count > 16 {
         return refuse_length(text, count - 3, code.k);
     }
-    put_message(text, input, code, &numbers[3..count])
+    put_message(text, input, layout::single(code), &numbers[3..count])
 }
 
 // Writes the sheet of an input in front of the text, or the sentence on what is wrong with it.

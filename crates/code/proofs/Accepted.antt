@@ -1,17 +1,17 @@
 -- What questions 1 to 4 say of an accepted code: its shape is a plain family. Assumes nothing.
---   Good s         the facts behind refusal 0; good: an accepted code's shape has them
+--   Good s         the facts behind refusal 0; good-of: an accepted code's shape has them
 --   placed-of, whole-of, k-of    what follows of places and of k
 --   plain-of, decodable-of, mending-of, mending    what an accepted code's shape is
 --   families       Families of specs/Promise.antt
 use mathlib.Core.Path.{_≡_, refl, sym, ap, _∙_}
-use mathlib.Core.Bool.{Bool, true, false, _&&_}
-use Prim.Native.Nat.{ℕ, suc, _+_, _*_, _-_, _/_, _%_, _≤_, _<_}
-use native.Mathlib.Nat.{div-add-mod', mod-lt}
+use mathlib.Core.Bool.{true, _&&_}
+use Prim.Native.Nat.{ℕ, _+_, _*_, _-_, _/_, _%_, _≤_}
+use native.Mathlib.Nat.{div-add-mod'}
 use native.Mathlib.Omega.{arith}
 use borrow.Author.Tests.{eq-eqb}
 use lib.Arith.{digits-div}
-use lib.Dec.{T, leb, eqb, eqb→eq, leb→le}
-use Rattle.algebra.proofs.Booleans.{so, and-left, and-right}
+use lib.Dec.{leb, eqb, eqb→eq, leb→le}
+use Rattle.algebra.proofs.Booleans.{and-left, and-right}
 use Rattle.field.specs.Field.{q}
 use Rattle.code.specs.declared.Code.{Code}
 use Rattle.code.specs.declared.Shape.{Shape}
@@ -34,9 +34,9 @@ pub record Good (s : Shape) : Type 0 where
   pub k-least : 1 ≤ s .k
   pub k-most : s .k ≤ s .r * (s .n / size s)
 
-pub good : (c : Code) → code-refusal c ≡ 0 → Good (single c)
+pub good-of : (c : Code) → code-refusal c ≡ 0 → Good (single c)
 unfolding code-refusal field-known r-fits n-fits k-fits
-good c e =
+good-of c e =
     let s = single c in
     let t₁ = asked (field-known s) 0 (ask (r-fits s) 2 (ask (n-fits s) 3 (ask (k-fits s) 4 0))) e in
     let t₂ = asked (r-fits s) 1 (ask (n-fits s) 3 (ask (k-fits s) 4 0)) (t₁ .1) in
@@ -107,7 +107,7 @@ module _ (s : Shape) (G : Good s) where
 pub plain-of : (c : Code) → code-refusal c ≡ 0 → Plain (single c)
 plain-of c e =
     let s = single c in
-    let G = good c e in
+    let G = good-of c e in
     record {
       family = grouped-whole s (placed-of s G (omega arith)) refl (G .k-least) (k-of s G) (whole-of s G);
       k-most = k-of s G;

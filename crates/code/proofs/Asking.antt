@@ -1,6 +1,6 @@
 -- One question more, as questions::ask asks it. Assumes nothing.
 --   after, after-two    the questions that come after it; after two with one number
---   passed              what it says where it does not refuse
+--   ask-passed              what it says where it does not refuse
 use mathlib.Core.Path.{_≡_, sym, ap, _∙_}
 use mathlib.Core.Bool.{Bool, _&&_}
 use Prim.Native.Nat.{ℕ, suc}
@@ -16,5 +16,5 @@ module _ (a x : ℕ) (b : Bool) (n : ℕ) (e : x ≡ or-ask a (ask b (suc n) 0))
   after-two y c d rest =
       ap (λ y. or-ask y rest) d ∙ ask-then x c n rest ∙ after (ask c (suc n) rest) ∙ ap (or-ask a) (ask-and b c (suc n) rest)
 
-  pub passed : x ≡ 0 → (a ≡ 0) × T b
-  passed z = let o = or-ask-passed a (ask b (suc n) 0) (sym e ∙ z) in (o .0, asked b n 0 (o .1) .0)
+  pub ask-passed : x ≡ 0 → (a ≡ 0) × T b
+  ask-passed z = let o = or-ask-passed a (ask b (suc n) 0) (sym e ∙ z) in (o .0, asked b n 0 (o .1) .0)

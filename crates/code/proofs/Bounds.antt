@@ -5,14 +5,14 @@
 --   k-most                 k is at most 240
 --   work-most              n × (k + 1) is at most 61,455
 use mathlib.Core.Path.{_≡_}
-use Prim.Native.Nat.{_+_, _*_, _-_, _≤_, _<_}
+use Prim.Native.Nat.{_+_, _*_, _-_, _≤_}
 use native.Mathlib.Nat.{mul-le-mul, mul-le-mul-left, mul-le-mul-right}
 use native.Mathlib.Omega.{arith}
 use Rattle.field.proofs.Laws.{q-most}
 use Rattle.code.specs.declared.Shape.{Shape}
 use Rattle.code.specs.Shape.{size, groups, room}
 use Rattle.code.specs.Laws.{Placed, Plain}
-use Rattle.code.proofs.Places.{n-room, groups-least, size-least}
+use Rattle.code.proofs.Places.{n-room, size-least}
 
 pub size-is : (s : Shape) → size s ≡ s .r + s .tolerance
 unfolding size

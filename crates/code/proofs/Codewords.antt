@@ -1,8 +1,8 @@
 -- Messages and the symbols of codewords. Assumes nothing.
 --   Message-is s xs          == xs has k symbols, all below q
---   message-is, is-message-of, zeros-is
+--   message-is, is-message-of
 --   length-encoded, at-encoded, symbol-below, encoded-below
---   symbols-below            Symbols-below of specs/Promise.antt
+--   symbols-in-field            Symbols-in-field of specs/Promise.antt
 --   value-none               where all basis polynomials are 0 so is the value
 use mathlib.Core.Path.{_≡_, refl, ap, ap₂, _∙_}
 use mathlib.Core.Bool.{true, _&&_}
@@ -10,10 +10,9 @@ use mathlib.Core.List.{List, [], _∷_}
 use Prim.Native.Nat.{ℕ, suc, _+_, _≤_, _<_}
 use native.Mathlib.Omega.{arith}
 use lib.Dec.{T, eqb, eqb→eq, eqb-refl, ltb, ltb→lt}
-use lib.ListN.{length, replicate, length-replicate}
+use lib.ListN.{length}
 use Rattle.algebra.specs.Sequence.{at, all-below}
 use Rattle.algebra.proofs.Booleans.{so, yes-true, and-left, and-right, and-both}
-use Rattle.algebra.proofs.At.{at-replicate}
 use Rattle.algebra.proofs.Tabulate.{length-tabulate, at-tabulate}
 use Rattle.algebra.proofs.Below.{all-below-intro}
 use Rattle.algebra.proofs.Ring.{mul-nil}
@@ -24,7 +23,7 @@ use Rattle.code.specs.declared.Shape.{Shape}
 use Rattle.code.specs.Shape.{point}
 use Rattle.code.specs.Basis.{basis}
 use Rattle.code.specs.Codeword.{is-message, value-from, value, symbol, encoded}
-use Rattle.code.specs.Promise.{Symbols-below}
+use Rattle.code.specs.Promise.{Symbols-in-field}
 
 pub record Message-is (s : Shape) (xs : List ℕ) : Type 0 where
   pub length-is : length xs ≡ s .k
@@ -54,16 +53,6 @@ module _ (s : Shape) (xs : List ℕ) where
   unfolding encoded
   at-encoded p h = at-tabulate (symbol s xs) 0 (s .n) p h
 
--- the message 0
-pub zeros-is : (s : Shape) → Message-is s (replicate (s .k) 0)
-zeros-is s =
-    record {
-      length-is = length-replicate {A = ℕ} (s .k) 0;
-      below =
-          all-below-intro (q (s .field)) (replicate (s .k) 0)
-          (λ i b. let l : i < s .k = omega (arith, length-replicate {A = ℕ} (s .k) 0) in rw (at-replicate (s .k) 0 i l) (zero-below (s .field)));
-    }
-
 pub value-below : (s : Shape) (x m : ℕ) (xs : List ℕ) → value-from s x m xs < q (s .field)
 unfolding value-from
 value-below s x m [] = omega (arith, laws (s .field) .two-below)
@@ -78,9 +67,9 @@ encoded-below s xs =
     all-below-intro (q (s .field)) (encoded s xs)
     (λ i b. let l : i < s .n = omega (arith, length-encoded s xs) in rw (at-encoded s xs i l) (symbol-below s xs i))
 
-pub symbols-below : Symbols-below
-unfolding Symbols-below
-symbols-below s xs = yes-true (all-below (q (s .field)) (encoded s xs)) (encoded-below s xs)
+pub symbols-in-field : Symbols-in-field
+unfolding Symbols-in-field
+symbols-in-field s xs = yes-true (all-below (q (s .field)) (encoded s xs)) (encoded-below s xs)
 
 none-from : (s : Shape) (x : ℕ) → ((m : ℕ) → m < s .k → basis s m x ≡ 0) → (m : ℕ) (ys : List ℕ) → m + length ys ≤ s .k
     → T (all-below (q (s .field)) ys) → value-from s x m ys ≡ 0

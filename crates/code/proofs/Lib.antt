@@ -2,7 +2,6 @@ pub mod Questions
 pub mod Asking
 pub mod Answers
 pub mod Fronts
-pub mod Counted
 pub mod Places
 pub mod Points
 pub mod Codewords

@@ -1,5 +1,5 @@
 -- Whole groups, and message symbol m goes with X to the power exponent m: a family, if the exponents differ and fit. Assumes nothing.
---   Exponents s    == what the exponents have to be
+--   Exponents-fit s    == what the exponents have to be
 --   basis-power    the basis polynomials are powers
 --   value-terms    the values are sums of symbol times power
 --   monomial       such a shape is a family
@@ -33,7 +33,7 @@ use Rattle.code.proofs.Points.{locator, locator-is, locators-differ, lo
 use Rattle.code.proofs.Codewords.{Message-is}
 use Rattle.code.proofs.Lawful.{polynomial-of, on-group-of, independent-of}
 
-pub record Exponents (s : Shape) : Type 0 where
+pub record Exponents-fit (s : Shape) : Type 0 where
   pub differ : (i j : ℕ) → i < s .k → j < s .k → exponent s i ≡ exponent s j → i ≡ j
   pub most : (m : ℕ) → m < s .k → exponent s m ≤ degree s
   pub in-block : (m : ℕ) → m < s .k → exponent s m % size s < s .r
@@ -56,7 +56,7 @@ module _ (s : Shape) (w : whole s ≡ true) where
       ap₂ (plus f) (ap₂ (times f) (el-is f y (ltb→lt y (q f) (and-left (ltb y (q f)) (all-below (q f) ys) t))) (sym (basis-el m x)))
       (value-terms x (suc m) ys (and-right (ltb y (q f)) (all-below (q f) ys) t))
 
-module _ (s : Shape) (P : Placed s) (w : whole s ≡ true) (E : Exponents s) where
+module _ (s : Shape) (P : Placed s) (w : whole s ≡ true) (E : Exponents-fit s) where
   abbrev f : ℕ
   f = s .field
 

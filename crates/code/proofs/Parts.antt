@@ -25,9 +25,9 @@ pub length-part : (m k : ℕ) (ws : List ℕ) → m + k ≤ length ws → length
 length-part m k ws h = length-take-le k (drop m ws) (omega (arith, length-drop m ws))
 
 module _ (s : Shape) (unwired : wired s ≡ false) where
-  pub first-is : (j : ℕ) → first s j ≡ j * size s
+  pub first-unwired : (j : ℕ) → first s j ≡ j * size s
   unfolding first
-  first-is j = ap (λ b. cond b j (j * size s)) unwired
+  first-unwired j = ap (λ b. cond b j (j * size s)) unwired
 
   pub slot-follows : (j i : ℕ) → slot-at s j i ≡ first s j + i
   unfolding slot-at step
@@ -36,21 +36,21 @@ module _ (s : Shape) (unwired : wired s ≡ false) where
       omega arith
 
   pub first-none : first s 0 ≡ 0
-  first-none = omega (arith, first-is 0)
+  first-none = omega (arith, first-unwired 0)
 
   pub first-next : (j : ℕ) → first s (j + 1) ≡ first s j + size s
-  first-next j = omega (arith, first-is (j + 1), first-is j)
+  first-next j = omega (arith, first-unwired (j + 1), first-unwired j)
 
   module _ (P : Placed s) (all : whole s ≡ true) where
     pub first-all : first s (groups s) ≡ s .n
     unfolding room
-    first-all = omega (arith, first-is (groups s), whole-room s P all)
+    first-all = omega (arith, first-unwired (groups s), whole-room s P all)
 
     pub group-room : (j : ℕ) → j < groups s → first s j + size s ≤ s .n
     unfolding room
     group-room j h =
         let m : suc j * size s ≤ groups s * size s = mul-le-mul-right (size s) h in
-        omega (arith, first-is j, whole-room s P all)
+        omega (arith, first-unwired j, whole-room s P all)
 
   pub part-of : (j m k : ℕ) (ws : List ℕ) → first s j ≡ m → size s ≡ k → Of-group s j ws (take k (drop m ws))
   part-of j m k ws e h i l =

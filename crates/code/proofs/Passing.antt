@@ -2,7 +2,7 @@
 --   length-kept, kept-distinct, kept-are, kept-kept    the kept places of a group
 --   sources-enough                          a group that stands keeps r of them
 --   pass-mends                              Pass-mends of specs/Promise.antt
-use mathlib.Core.Path.{_≡_, refl, sym, ap, ap₂, _∙_}
+use mathlib.Core.Path.{_≡_, refl, sym, ap, _∙_}
 use mathlib.Core.Logic.{_≢_}
 use mathlib.Core.Bool.{Bool, true, false, cond, _&&_}
 use mathlib.Core.List.{List, _∷_}
@@ -10,19 +10,17 @@ use Prim.Native.Nat.{ℕ, zero, suc, _+_, _≤_, _<_}
 use native.Mathlib.Nat.{add-zero, add-suc, suc-add, zero-add}
 use native.Mathlib.Decide.{decLt}
 use native.Mathlib.Omega.{arith}
-use lib.Dec.{T, leb, leb→le, le→leb, eqb, eqb-refl}
+use lib.Dec.{T, leb, leb→le}
 use lib.ListN.{length, take}
 use lib.Seq.{length-take-le}
-use Rattle.algebra.specs.Sequence.{at, count, every, Each, Distinct}
-use Rattle.algebra.proofs.Booleans.{so, yes-true, and-left, and-right}
+use Rattle.algebra.specs.Sequence.{at, count, Each, Distinct}
+use Rattle.algebra.proofs.Booleans.{so, and-right}
 use Rattle.algebra.proofs.Each.{each-intro, each-at, map-each, each-of-map}
 use Rattle.algebra.proofs.At.{at-past}
 use Rattle.algebra.proofs.Tabulate.{at-tabulate}
-use Rattle.algebra.proofs.Every.{every-intro}
-use Rattle.algebra.proofs.Counting.{count-zero, count-some}
-use Rattle.field.specs.Field.{q}
+use Rattle.algebra.proofs.Counting.{count-zero}
 use Rattle.code.specs.declared.Shape.{Shape}
-use Rattle.code.specs.Shape.{size, groups, room, group, member, slot-at}
+use Rattle.code.specs.Shape.{size, groups, room, group, slot-at}
 use Rattle.code.specs.Codeword.{symbol, encoded}
 use Rattle.code.specs.Decoding.{lost}
 use Rattle.code.specs.Erasure.{group-losses, stands}
@@ -30,7 +28,7 @@ use Rattle.code.specs.Repair.{restored, symbols-of}
 use Rattle.code.specs.Pass.{kept-from, kept-places, sources, mendable, mends, mend, passed}
 use Rattle.code.specs.Laws.{Placed, Family}
 use Rattle.code.specs.Promise.{Pass-mends}
-use Rattle.code.proofs.Places.{n-room, group-below, member-below, slot-below, slot-group-member, group-slot-at, slot-at-injective}
+use Rattle.code.proofs.Places.{n-room, group-below, slot-below, group-slot-at, slot-at-injective}
 use Rattle.code.proofs.Codewords.{Message-is, message-is, length-encoded, at-encoded}
 use Rattle.code.proofs.Fronts.{each-take, in-take, distinct-take}
 use Rattle.code.proofs.Distance.{symbol-behind}
@@ -149,4 +147,3 @@ pass-mends s xs ws ms p F m h mended e =
     at-tabulate (λ p. cond (mends s ms p) (mend s ws ms p) (at ws p)) 0 (s .n) p h
     ∙ ap (λ b. cond b (mend s ws ms p) (at ws p)) mended
     ∙ mend-restores s F xs ws ms (message-is s xs m) p h (mends-stands s ms p mended) e
-

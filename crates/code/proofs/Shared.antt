@@ -8,7 +8,7 @@ use native.Mathlib.Omega.{arith}
 use Rattle.code.specs.declared.Shape.{Shape}
 use Rattle.code.specs.Laws.{Plain}
 use Rattle.code.specs.Family.{single}
-use Rattle.code.specs.Shape.{ceiling, room, missing}
+use Rattle.code.specs.Shape.{ceiling, missing}
 use Rattle.code.specs.Basis.{exponent, degree, most-shared}
 use Rattle.code.specs.Codeword.{guarantee}
 use Rattle.code.specs.Promise.{Exponents-are, Shared-are, Code-numbers}

@@ -2,7 +2,7 @@
 --   Families                                              the codes of the paper are a family, and a plain one
 --   Points-differ, Group-power, Exponents-are             points and exponents
 --   Shared-are, Code-numbers                              the most places that two codewords share, and the guarantee, in closed form
---   Symbols-below, Low-degree                             codewords
+--   Symbols-in-field, Low-degree                             codewords
 --   Far-apart, Decodes-back, Encoding-injective, Bridges  one proof of the distance rule; messages and codewords
 --   Groups-tell, Restores, Repairs-back, Strip-restores   groups
 --   Pass-mends, Before-and-after                          the local pass
@@ -75,8 +75,8 @@ unfoldable pub Code-numbers : Type 0
 Code-numbers = (c : Code) → Accepted c → Numbers c
 
 -- symbols of a codeword are below q
-unfoldable pub Symbols-below : Type 0
-Symbols-below = (s : Shape) (xs : List ℕ) → all-below (q (s .field)) (encoded s xs) ≡ true
+unfoldable pub Symbols-in-field : Type 0
+Symbols-in-field = (s : Shape) (xs : List ℕ) → all-below (q (s .field)) (encoded s xs) ≡ true
 
 -- on one group the encoding polynomial has the values of one with r coefficients
 unfoldable pub Low-degree : Type 0
@@ -197,7 +197,7 @@ pub record Promises : Type 0 where
   pub exponents-are : Exponents-are
   pub shared-are : Shared-are
   pub code-numbers : Code-numbers
-  pub symbols-below : Symbols-below
+  pub symbols-in-field : Symbols-in-field
   pub low-degree : Low-degree
   pub far-apart : Far-apart
   pub decodes-back : Decodes-back

@@ -1,24 +1,23 @@
 -- All statements of specs/Promise.antt are proved. Assumes nothing.
 --   promises    each of them
 use mathlib.Core.Path.{_≡_, refl, sym, ap, _∙_}
-use mathlib.Core.Logic.{_≢_}
 use mathlib.Core.Bool.{Bool, true, false, _||_}
 use mathlib.Core.List.{List}
 use Prim.Native.Nat.{ℕ, _<_}
 use native.Mathlib.Omega.{arith}
 use lib.Dec.{T, eqb, eqb→eq, ltb, lt→ltb}
 use lib.ListN.{length}
-use Rattle.algebra.specs.Sequence.{at, every}
+use Rattle.algebra.specs.Sequence.{at}
 use Rattle.algebra.proofs.Booleans.{yes-true}
 use Rattle.algebra.proofs.Every.{every-intro}
 use Rattle.field.specs.Field.{q}
 use Rattle.code.specs.declared.Shape.{Shape}
-use Rattle.code.specs.Codeword.{encoded, Codeword}
-use Rattle.code.specs.Decoding.{lost, agrees, fits}
+use Rattle.code.specs.Codeword.{encoded}
+use Rattle.code.specs.Decoding.{lost, agrees}
 use Rattle.code.specs.Erasure.{kept-below}
 use Rattle.code.specs.Laws.{Family}
 use Rattle.code.specs.Verdict.{Verdict, one, none, more}
-use Rattle.code.specs.Promise.{Message, One-fits, One-agrees, Bridge, Bridges, Decodes-back}
+use Rattle.code.specs.Promise.{Message, One-agrees, Bridge, Bridges, Decodes-back}
 use Rattle.code.proofs.Codewords.{at-encoded, symbol-below}
 use Rattle.code.proofs.Decoding.{fits-message, fits-agrees, agrees-at, decodes-back}
 use Rattle.code.proofs.Bridges.{bridges}

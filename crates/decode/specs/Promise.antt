@@ -12,7 +12,7 @@ use lib.ListN.{length}
 use Rattle.algebra.specs.Sequence.{all-below}
 use Rattle.code.specs.declared.Shape.{Shape}
 use Rattle.code.specs.Codeword.{encoded, Codeword, guarantee}
-use Rattle.code.specs.Decoding.{agrees, fits}
+use Rattle.code.specs.Decoding.{agrees}
 use Rattle.code.specs.Erasure.{lost-number}
 use Rattle.code.specs.Laws.{Family}
 use Rattle.code.specs.Promise.{Message, One-agrees}

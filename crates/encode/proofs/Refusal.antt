@@ -1,7 +1,7 @@
 -- The questions of encode. Assumes nothing.
 --   asked-in-turn      they are asked one after another
 --   Passed n s ms l    no refusal n before, the buffers have their lengths, and the symbols are below q
---   passed             an encode that is not refused has these
+--   encode-passed             an encode that is not refused has these
 use mathlib.Core.Path.{_≡_, ap, _∙_}
 use mathlib.Core.Bool.{_&&_}
 use mathlib.Core.List.{List}
@@ -32,9 +32,9 @@ pub record Passed (n : ℕ) (s : Shape) (ms : List ℕ) (l : ℕ) : Type 0 where
   pub room : l ≡ s .n
   pub below : T (all-below (q (s .field)) ms)
 
-pub passed : (n : ℕ) (s : Shape) (ms : List ℕ) (l : ℕ) → encode-refusal n s ms l ≡ 0 → Passed n s ms l
+pub encode-passed : (n : ℕ) (s : Shape) (ms : List ℕ) (l : ℕ) → encode-refusal n s ms l ≡ 0 → Passed n s ms l
 unfolding encode-refusal
-passed n s ms l e =
+encode-passed n s ms l e =
     let sizes = eqb (length ms) (s .k) && eqb l (s .n) in
     let six : ℕ = ask (all-below (q (s .field)) ms) 6 0 in
     let o = or-ask-passed n (ask sizes 5 six) e in

@@ -16,7 +16,7 @@ use Rattle.code.specs.Laws.{Family, Plain}
 use Rattle.code.proofs.Places.{missing-less, remainder}
 use Rattle.code.proofs.Questions.{ask-yes}
 use Rattle.code.proofs.Grouped.{size-sum, grouped-whole}
-use Rattle.code.proofs.Accepted.{Good, good, room-whole, whole-of, k-of}
+use Rattle.code.proofs.Accepted.{Good, good-of, room-whole, whole-of, k-of}
 use Rattle.families.specs.Family.{general, double, length-fits, least, dimension-fits, wiring-fits, general-refusal}
 use Rattle.families.specs.Promise.{General-are, Whole-are, Double-are, Stay-accepted, Either-wiring}
 use Rattle.families.proofs.Passed.{Passed, least-whole, least-short, general-passed, double-passed}
@@ -118,11 +118,11 @@ pub stay-accepted : Stay-accepted
 unfolding Stay-accepted general-refusal
 stay-accepted w c e h =
     let s = general w c in
-    let G = rewired w c (good c e) in
+    let G = rewired w c (good-of c e) in
     sym
     (ask-yes 1 (field-passes s G)
     (ask-yes 2 (r-passes s G) (ask-yes 3 (length-passes s G) (ask-yes 4 (dimension-passes s G) (ask-yes 17 (wiring-passes s G h) refl)))))
 
 pub either-wiring : Either-wiring
 unfolding Either-wiring Stay-accepted Whole-are
-either-wiring w c e h = whole-are w c (stay-accepted w c e h) (whole-of (general w c) (rewired w c (good c e)))
+either-wiring w c e h = whole-are w c (stay-accepted w c e h) (whole-of (general w c) (rewired w c (good-of c e)))

@@ -141,14 +141,7 @@ pub extern "C" fn latsefidy_record(
 ) -> u32
     ensures { λ x. ⌜ Record-fills (code-of field r n k) (now (word .entry)) (now (marks .entry)) x (now (message .entry)) (now (message .exit)) (now (work .entry)) (now (work .exit)) (now (numbers .entry)) (now (numbers .exit)) ⌝ }
 {
-    binding::record_into(
-        Code { field, r, n, k },
-        word,
-        marks,
-        message,
-        work,
-        numbers,
-    )
+    binding::record_into(Code { field, r, n, k }, word, marks, message, work, numbers)
 }
 
 // Reads a stripe sheet.

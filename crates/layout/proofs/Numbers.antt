@@ -1,7 +1,7 @@
 -- Numbers of the layout that its functions work out. Assumes nothing.
 --   wired-yes, wired-no    what the wiring says
 --   group-is, member-is, first-is, step-is, slot-is    the definitions over numbers that were worked out
---   power-below            the exponent of a member's point is below q - 1
+--   point-power-below            the exponent of a member's point is below q - 1
 --   mate-size, mate-is, mate-slot    a mate by its member
 use mathlib.Core.Path.{_≡_, sym, ap, ap₂, _∙_}
 use mathlib.Core.Logic.{_≢_}
@@ -56,8 +56,8 @@ module _ (s : Shape) (P : Placed s) where
   pub slot-byte : (j i : ℕ) → j < groups s → i < size s → slot-at s j i < 255
   slot-byte j i g h = omega (arith, slot-below s P j i g h, room-byte s P)
 
-  pub power-below : (j i : ℕ) → j < groups s → i < size s → j + i * ((q (s .field) - 1) / size s) < q (s .field) - 1
-  power-below j i g h =
+  pub point-power-below : (j i : ℕ) → j < groups s → i < size s → j + i * ((q (s .field) - 1) / size s) < q (s .field) - 1
+  point-power-below j i g h =
       rw (group-slot-at s P j i g h, member-slot-at s P j i g h) at (exponent-below s P (slot-at s j i) (slot-below s P j i g h))
 
   module _ (p : ℕ) (h : p < s .n) (i : ℕ) (l : i < length (mates s p)) where

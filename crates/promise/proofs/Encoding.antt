@@ -2,7 +2,7 @@
 --   encode-passes     a message and a buffer of n are not refused
 --   encode-fills      and the codeword is written
 --   encode-cond       what the buffer holds, by whether it is refused
-use mathlib.Core.Path.{_≡_, refl, sym, ap, _∙_}
+use mathlib.Core.Path.{_≡_, refl, sym}
 use mathlib.Core.Bool.{true, cond, _&&_}
 use mathlib.Core.List.{List}
 use Prim.Native.Nat.{ℕ, zero, suc}

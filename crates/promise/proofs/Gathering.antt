@@ -1,7 +1,7 @@
 -- The mates' symbols from the group view of a word. Assumes nothing.
 --   seen-size           the view has the symbols of the group
 --   gathered            what is gathered from it at the mates is what the word holds there
-use mathlib.Core.Path.{_≡_, sym, ap, subst, _∙_}
+use mathlib.Core.Path.{_≡_, ap, subst, _∙_}
 use mathlib.Core.List.{List}
 use Prim.Native.Nat.{ℕ, _<_}
 use native.Mathlib.Omega.{arith}

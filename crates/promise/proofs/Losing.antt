@@ -9,7 +9,7 @@ use Prim.Native.Nat.{ℕ, _<_}
 use native.Mathlib.Omega.{arith}
 use lib.Dec.{T, eqb, eqb-refl}
 use lib.ListN.{length}
-use Rattle.algebra.specs.Sequence.{at, tabulate, Each}
+use Rattle.algebra.specs.Sequence.{at, Each}
 use Rattle.algebra.proofs.Booleans.{yes-true}
 use Rattle.algebra.proofs.Each.{each-zip, map-each}
 use Rattle.algebra.proofs.Tabulate.{length-tabulate, at-tabulate}

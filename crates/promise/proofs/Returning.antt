@@ -10,7 +10,7 @@ use Prim.Native.Nat.{ℕ, zero, suc, _<_}
 use borrow.Author.Tests.{eq-eqb, lt-ltb}
 use lib.Dec.{eqb, ltb}
 use lib.ListN.{length}
-use Rattle.algebra.specs.Sequence.{at, Each}
+use Rattle.algebra.specs.Sequence.{Each}
 use Rattle.code.specs.declared.Code.{Code}
 use Rattle.code.specs.declared.Answer.{Answer}
 use Rattle.code.specs.Question.{ask, or-ask}

@@ -1,9 +1,9 @@
 -- What encoding and losing answer and leave. Assumes nothing.
 --   send-is           the questions asked one after another are its refusal
 --   left-refused      on a refusal the word is as it was
---   Passed, passed    what holds where no question refuses
+--   Passed, send-passed    what holds where no question refuses
 --   left-sent         then the word holds what a loss leaves of the codeword
-use mathlib.Core.Path.{_≡_, refl, sym, ap, _∙_}
+use mathlib.Core.Path.{_≡_, sym, ap, _∙_}
 use mathlib.Core.Logic.{_≢_}
 use mathlib.Core.Bool.{Bool, cond, _&&_}
 use mathlib.Core.List.{List}
@@ -52,7 +52,7 @@ module _ (c : Code) (ms ks os cs ws : List ℕ) (x x₁ x₂ x₃ : ℕ) (z : Li
             record {
               codeword = encode-cond (code-refusal c) (single c) ms x cs z says;
               word = sym (ap (λ t. cond t (after-loss (encoded (single c) ms) ks os) ws)
-                (ne-eqb (send-refusal c ms ks os (length cs) (length ws)) 0 (λ e. n (send-is ∙ e))));
+                  (ne-eqb (send-refusal c ms ks os (length cs) (length ws)) 0 (λ e. n (send-is ∙ e))));
             };
       }
 
@@ -63,9 +63,9 @@ module _ (c : Code) (ms ks os cs ws : List ℕ) (x x₁ x₂ x₃ : ℕ) (z : Li
     pub other-size : length os ≡ c .n
     pub word-size : length ws ≡ c .n
 
-  pub passed : x₃ ≡ 0 → Passed
+  pub send-passed : x₃ ≡ 0 → Passed
   unfolding send-refusal
-  passed e =
+  send-passed e =
       let o = or-ask-passed (encode-refusal (code-refusal c) (single c) ms (length cs)) _ (sym send-is ∙ e) in
       let t = asked ((a && b) && d) 4 0 (o .1) .0 in
       let w : z ≡ encoded (single c) ms
@@ -86,8 +86,8 @@ module _ (c : Code) (ms ks os cs ws : List ℕ) (x x₁ x₂ x₃ : ℕ) (z : Li
         sent =
             record {
               codeword = encode-cond (code-refusal c) (single c) ms x cs z says;
-              word = p ∙ ap (λ w. after-loss w ks os) (passed e .codeword)
-                ∙ sym (ap (λ t. cond t (after-loss (encoded (single c) ms) ks os) ws)
-                (eq-eqb (send-refusal c ms ks os (length cs) (length ws)) 0 (sym send-is ∙ e)));
+              word = p ∙ ap (λ w. after-loss w ks os) (send-passed e .codeword)
+                  ∙ sym (ap (λ t. cond t (after-loss (encoded (single c) ms) ks os) ws)
+                  (eq-eqb (send-refusal c ms ks os (length cs) (length ws)) 0 (sym send-is ∙ e)));
             };
       }

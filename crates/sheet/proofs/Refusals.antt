@@ -3,7 +3,7 @@
 --   sheet-two, sheet-three    a sheet's 11 and 12
 --   body-three        its 14, 6 and 15
 --   write-four        the writer's, and question 6 after them
---   sheet-words-in, write-lengths    what holds where these are passed
+--   sheet-words-in, write-lengths    what holds where these are ask-passed
 use mathlib.Core.Path.{_≡_, refl, sym, ap, ap₂, _∙_}
 use mathlib.Core.Logic.{_≢_}
 use mathlib.Core.Bool.{Bool, _&&_}
@@ -19,7 +19,7 @@ use Rattle.code.specs.Family.{single, code-refusal}
 use Rattle.code.specs.Erasure.{kept-below}
 use Rattle.code.specs.declared.Code.{Code}
 use Rattle.code.proofs.Questions.{ask-then, ask-and, ask-yes, or-ask-stop}
-use Rattle.code.proofs.Asking.{after, after-two, passed}
+use Rattle.code.proofs.Asking.{after, after-two, ask-passed}
 use Rattle.words.specs.Word.{word-at, kind, end-word, slot-fits, word-symbol}
 use Rattle.sheet.specs.Sheet.{middle-word, code-in, symbols-in, marks-in}
 use Rattle.sheet.specs.Calls.{body-refusal, sheet-refusal, read-refusal, write-refusal}
@@ -50,7 +50,7 @@ module _ (s : List ℕ) (x y : ℕ) (e : x ≡ or-ask 0 (ask (eqb (length s % 4)
       or-ask-stop y (ask b 12 (code-and-body s)) n ∙ sym (ask-then y b 11 (code-and-body s)) ∙ sheet-three (kind (word-at s 0)) _ refl refl
 
   pub sheet-words-in : y ≡ 0 → 1 ≤ length s / 4
-  sheet-words-in z = leb→le 1 (length s / 4) (passed x y (leb 1 (length s / 4)) 11 d z .1)
+  sheet-words-in z = leb→le 1 (length s / 4) (ask-passed x y (leb 1 (length s / 4)) 11 d z .1)
 
 -- f: the slots fit; m: q; l: the last word
 pub body-three : (c : Code) (s : List ℕ) (x y z m l w : ℕ) → c ≡ code-in s → length s / 4 ≡ c .n + 2 → m ≡ q (c .field) → l ≡ word-at s (c .n + 1)
@@ -80,6 +80,6 @@ module _ (c : Code) (ws ms : List ℕ) (l v x y z u : ℕ) (m : Bool) (e : v ≡
 
   pub write-lengths : u ≡ 0 → (length ws ≡ c .n) × (length ms ≡ c .n)
   write-lengths o =
-      let r = passed y z (eqb l (4 * (c .n + 2))) 4 e₃ (passed z u m 7 e₄ o .0) in
-      let t = passed x y (eqb (length ms) (c .n)) 4 e₂ (r .0) in
-      (eqb→eq (length ws) (c .n) (passed v x (eqb (length ws) (c .n)) 4 e₁ (t .0) .1), eqb→eq (length ms) (c .n) (t .1))
+      let r = ask-passed y z (eqb l (4 * (c .n + 2))) 4 e₃ (ask-passed z u m 7 e₄ o .0) in
+      let t = ask-passed x y (eqb (length ms) (c .n)) 4 e₂ (r .0) in
+      (eqb→eq (length ws) (c .n) (ask-passed v x (eqb (length ws) (c .n)) 4 e₁ (t .0) .1), eqb→eq (length ms) (c .n) (t .1))

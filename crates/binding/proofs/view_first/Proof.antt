@@ -1,4 +1,4 @@
-use mathlib.Core.Path.{_≡_, refl, sym, ap, subst, _∙_}
+use mathlib.Core.Path.{refl, sym, ap, subst, _∙_}
 use Rattle.code.specs.Family.{single, code-refusal}
 use Rattle.code.specs.Shape.{first}
 use Rattle.code.specs.Laws.{Placed}

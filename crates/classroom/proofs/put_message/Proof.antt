@@ -3,29 +3,30 @@ use Prim.Native.Nat.{_≤_}
 use native.Mathlib.Omega.{arith}
 use lib.ListN.{length-take}
 use Rattle.field.specs.Field.{q}
-use Rattle.code.specs.Code.{code-refusal}
-use Rattle.code.specs.declared.Code.{Code}
-use Rattle.code.proofs.Accepted.{good}
+use Rattle.code.specs.declared.Shape.{Shape}
+use Rattle.code.specs.Laws.{Placed}
+use Rattle.code.proofs.Accepted.{mending}
+use Rattle.code.proofs.Places.{n-room}
 use borrow.Author.Needs.{needs}
 use Rattle.classroom.proofs.put_message.Statement.{statement}
 use Rattle.classroom.proofs.put_message.Tie as tie
 
--- a code over thirteen has twelve slots at the most
-twelve : (c : Code) → c .field ≡ 0 → code-refusal c ≡ 0 → c .n ≤ 12
+-- a shape over thirteen has twelve slots at the most
+twelve : (s : Shape) → s .field ≡ 0 → Placed s → s .n ≤ 12
 unfolding q
-twelve c f e = omega (arith, good c e .n-most, ap q f)
+twelve s f P = omega (arith, n-room s P, P .room-most, ap q f)
 
 cast-codeword : tie.Need-cast-codeword
 cast-codeword c = search needs
 
 array-borrow-prefix-codeword : tie.Need-array-borrow-prefix-codeword
-array-borrow-prefix-codeword c = let s = c .before .before .before .before in twelve (s .args .code) (s .pre .1) (s .pre .0)
+array-borrow-prefix-codeword c = let s = c .before .before .before .before in twelve (s .args .shape) (s .pre .1) (s .pre .0 .plain .family .placed)
 
 slice-aggregate-front : tie.Need-slice-aggregate-front
-slice-aggregate-front c = let s = c .before .before .before .before .before in simp (length-take) (omega (arith, twelve (s .args .code) (s .pre .1) (s .pre .0)))
+slice-aggregate-front c = let s = c .before .before .before .before .before in simp (length-take) (omega (arith, twelve (s .args .shape) (s .pre .1) (s .pre .0 .plain .family .placed)))
 
-encode-requires : tie.Need-encode-requires
-encode-requires c κs = search needs
+encode-with-requires : tie.Need-encode-with-requires
+encode-with-requires c κs _ = c .before .before .before .before .before .before .pre .0 .plain
 
 refuse-length-requires : tie.Need-refuse-length-requires
 refuse-length-requires c κs = search needs
@@ -55,7 +56,9 @@ returns-2 : tie.Need-returns-2
 returns-2 c = search needs
 
 put-sheet-requires : tie.Need-put-sheet-requires
-put-sheet-requires c κs = search needs
+put-sheet-requires c κs =
+    let s = c .before .before .before .before .before .before .before .before .before .before .before .before .before in
+    (mending (s .args .shape) (s .pre .0), s .pre .2)
 
 same-length-3 : tie.Need-same-length-3
 same-length-3 c = search needs
@@ -70,7 +73,7 @@ put-message-spec =
     cast-codeword
     array-borrow-prefix-codeword
     slice-aggregate-front
-    encode-requires
+    encode-with-requires
     refuse-length-requires
     same-length
     returns

@@ -2,7 +2,7 @@ use borrow.Author.Needs.{needs}
 use mathlib.Core.Path.{sym, ap, _∙_}
 use mathlib.Core.List.{_++_}
 use Prim.Native.Nat.{ℕ, _+_, _*_}
-use lib.ListN.{length, drop, replicate}
+use lib.ListN.{drop, replicate}
 use lib.Seq.{length-take-le}
 use Rattle.decode.specs.Decode.{used, cleared}
 use Rattle.decode.proofs.Refusals.{room}
@@ -55,7 +55,7 @@ returns c =
     let t = c .before .before .before .before .solve in (
       t .ensures .0,
       ap (λ z. z ++ drop (a .shape .n * (a .shape .k + 1)) (a .work .now))
-      (t .ensures .1 ∙ ap (λ (l : ℕ). replicate l 0) (length-take-le (a .shape .n * (a .shape .k + 1)) (a .work .now) (e .pre .work-size))),
+          (t .ensures .1 ∙ ap (λ (l : ℕ). replicate l 0) (length-take-le (a .shape .n * (a .shape .k + 1)) (a .work .now) (e .pre .work-size))),
     )
 
 pub settle-spec : {M : Type 1} → statement M

@@ -5,7 +5,7 @@ use Rattle.code.specs.Codeword.{encoded}
 use Rattle.code.proofs.Answers.{fills-no, fills-yes}
 use Rattle.code.proofs.Codewords.{is-message-of}
 use Rattle.encode.specs.Encode.{encode-refusal, Encode-says}
-use Rattle.encode.proofs.Refusal.{passed}
+use Rattle.encode.proofs.Refusal.{encode-passed}
 use Rattle.encode.proofs.encode_with.Statement.{statement}
 use Rattle.encode.proofs.encode_with.Tie as tie
 
@@ -29,7 +29,7 @@ write-codeword-requires : tie.Need-write-codeword-requires
 write-codeword-requires c κs =
     let s = c .before .before .before .before .before .before .before .before .before in
     let a = s .args in
-    let P = passed (a .refusal) (a .shape) (a .message .now) (length (a .codeword .now))
+    let P = encode-passed (a .refusal) (a .shape) (a .message .now) (length (a .codeword .now))
     (sym (c .before .before .before .before .before .before .encode-refusal .ensures) ∙ c .before .before .before .before .before .if1 .left) in (
       c .before .before .before .before .power-table .ensures,
       c .before .before .before .log-table .ensures,

@@ -1,7 +1,7 @@
 use borrow.Author.Needs.{needs}
-use mathlib.Core.Path.{_≡_, refl, ap, _∙_}
+use mathlib.Core.Path.{refl}
 use mathlib.Core.Bool.{true, false}
-use Prim.Native.Nat.{_*_, _≤_}
+use Prim.Native.Nat.{_≤_}
 use native.Mathlib.Nat.{mul-le-mul}
 use native.Mathlib.Omega.{arith}
 use Rattle.code.specs.Shape.{size}
@@ -17,7 +17,7 @@ size-of-requires : tie.Need-size-of-requires
 size-of-requires c κs = search needs
 
 mul-result : tie.Need-mul-result
-mul-result c = 
+mul-result c =
     let e = c .before .before .before in
     let g : e .args .group ≤ 255 = omega (arith, e .pre .1, groups-most (e .args .shape) (e .pre .0)) in
     let z : c .size-of .result ≤ 17 = omega (arith, c .size-of .ensures, e .pre .0 .size-most) in

@@ -2,7 +2,7 @@ use borrow.Author.Needs.{needs}
 use mathlib.Core.Path.{ap}
 use Prim.Native.Nat.{_+_, _-_, _/_}
 use native.Mathlib.Omega.{arith}
-use Rattle.code.specs.Shape.{ceiling, size, groups}
+use Rattle.code.specs.Shape.{ceiling, groups}
 use Rattle.code.proofs.Places.{size-least}
 use Rattle.code.proofs.Bounds.{n-most}
 use Rattle.layout.proofs.groups_of.Statement.{statement}

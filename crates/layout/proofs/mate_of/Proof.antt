@@ -1,9 +1,8 @@
 use borrow.Author.Needs.{needs}
-use mathlib.Core.Path.{_≡_, sym, ap, ap₂, _∙_}
-use Prim.Native.Nat.{_<_}
+use mathlib.Core.Path.{sym, ap, ap₂, _∙_}
 use native.Mathlib.Omega.{arith}
-use Rattle.code.specs.Shape.{group, member, slot-at, mates}
-use Rattle.code.proofs.Mates.{length-mates, members-most, mate-below}
+use Rattle.code.specs.Shape.{group, slot-at}
+use Rattle.code.proofs.Mates.{length-mates, members-most}
 use Rattle.layout.specs.Step.{mate-member}
 use Rattle.layout.proofs.Numbers.{mate-size, mate-is, mate-slot}
 use Rattle.layout.proofs.mate_of.Statement.{statement}
@@ -16,20 +15,20 @@ member-of-requires : tie.Need-member-of-requires
 member-of-requires c κs = search needs
 
 mate-member-requires : tie.Need-mate-member-requires
-mate-member-requires c κs = 
+mate-member-requires c κs =
     let e = c .before .before in
     let s = e .args .shape in
     omega (arith, e .pre .2, length-mates s (e .pre .0) (e .args .slot) (e .pre .1), members-most s (e .pre .0) (group s (e .args .slot)), e .pre .0 .size-most)
 
 slot-at-requires : tie.Need-slot-at-requires
-slot-at-requires c κs = 
+slot-at-requires c κs =
     let e = c .before .before .before in
     let s = e .args .shape in
     let m = ap (λ o. mate-member o (e .args .i)) (c .before .member-of .ensures .0) in
     (e .pre .0, c .before .before .group-of .ensures .1, rw (c .mate-member .ensures, m) (mate-size s (e .pre .0) (e .args .slot) (e .pre .1) (e .args .i) (e .pre .2)))
 
 returns : tie.Need-returns
-returns c = 
+returns c =
     let e = c .before .before .before .before in
     let s = e .args .shape in
     let m = c .before .mate-member .ensures ∙ ap (λ o. mate-member o (e .args .i)) (c .before .before .member-of .ensures .0) in

@@ -1,9 +1,8 @@
 use borrow.Author.Needs.{needs}
-use mathlib.Core.Path.{_≡_, refl, sym, ap}
+use mathlib.Core.Path.{refl}
 use mathlib.Core.Bool.{true, false}
-use Prim.Native.Nat.{_/_, _%_, _<_}
 use native.Mathlib.Omega.{arith}
-use Rattle.code.specs.Shape.{size, groups, room}
+use Rattle.code.specs.Shape.{size, groups}
 use Rattle.code.proofs.Places.{size-least, groups-least, n-room, member-below}
 use Rattle.layout.proofs.Numbers.{wired-yes, wired-no, member-is}
 use Rattle.layout.proofs.member_of.Statement.{statement}
@@ -16,7 +15,7 @@ div-result : tie.Need-div-result
 div-result c = let e = c .before .before .before in omega (arith, c .groups-of .ensures, groups-least (e .args .shape) (e .pre .0))
 
 returns : tie.Need-returns
-returns c = 
+returns c =
     let e = c .before .before .before in
     let s = e .args .shape in
     let is = member-is s true (wired-yes s (c .before .if1 .taken)) (e .args .slot) (c .groups-of .result) (size s) (c .groups-of .ensures) refl in
@@ -29,7 +28,7 @@ rem-result : tie.Need-rem-result
 rem-result c = let e = c .before .before .before in omega (arith, c .size-of .ensures, size-least (e .args .shape) (e .pre .0))
 
 returns-2 : tie.Need-returns-2
-returns-2 c = 
+returns-2 c =
     let e = c .before .before .before in
     let s = e .args .shape in
     let is = member-is s false (wired-no s (c .before .if1 .left)) (e .args .slot) (groups s) (c .size-of .result) refl (c .size-of .ensures) in

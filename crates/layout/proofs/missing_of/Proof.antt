@@ -1,8 +1,8 @@
 use borrow.Author.Needs.{needs}
-use mathlib.Core.Path.{_≡_, ap, ap₂, _∙_}
-use Prim.Native.Nat.{_*_, _-_, _≤_}
+use mathlib.Core.Path.{ap, ap₂}
+use Prim.Native.Nat.{_*_, _-_}
 use native.Mathlib.Omega.{arith}
-use Rattle.code.specs.Shape.{size, groups, room, missing}
+use Rattle.code.specs.Shape.{room, missing}
 use Rattle.code.proofs.Places.{n-room}
 use Rattle.code.proofs.Bounds.{room-byte}
 use Rattle.layout.proofs.missing_of.Statement.{statement}

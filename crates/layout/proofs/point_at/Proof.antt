@@ -1,11 +1,11 @@
 use borrow.Author.Needs.{needs}
-use mathlib.Core.Path.{_≡_, ap, ap₂, sym, _∙_}
-use Prim.Native.Nat.{_+_, _*_, _-_, _/_, _<_}
+use mathlib.Core.Path.{ap₂, _∙_}
+use Prim.Native.Nat.{_+_, _*_, _-_, _/_}
 use native.Mathlib.Omega.{arith}
-use Rattle.field.specs.Field.{q, γ, power}
+use Rattle.field.specs.Field.{γ, power}
 use Rattle.field.proofs.Laws.{q-most}
-use Rattle.code.specs.Shape.{size, point-at}
-use Rattle.layout.proofs.Numbers.{power-below}
+use Rattle.code.specs.Shape.{point-at}
+use Rattle.layout.proofs.Numbers.{point-power-below}
 use Rattle.layout.proofs.point_at.Statement.{statement}
 use Rattle.layout.proofs.point_at.Tie as tie
 
@@ -22,29 +22,29 @@ div-width : tie.Need-div-width
 div-width c = search needs
 
 mul-generator-power : tie.Need-mul-generator-power
-mul-generator-power c = 
+mul-generator-power c =
     let e = c .before .before in
     let s = e .args .shape in
     let w = ap₂ (λ o t. e .args .group + e .args .member * ((o - 1) / t)) (c .before .order .ensures .0) (c .size-of .ensures) in
-    omega (arith, w, power-below s (e .pre .0) (e .args .group) (e .args .member) (e .pre .1) (e .pre .2), q-most (s .field))
+    omega (arith, w, point-power-below s (e .pre .0) (e .args .group) (e .args .member) (e .pre .1) (e .pre .2), q-most (s .field))
 
 add-generator-power : tie.Need-add-generator-power
-add-generator-power c = 
+add-generator-power c =
     let e = c .before .before in
     let s = e .args .shape in
     let w = ap₂ (λ o t. e .args .group + e .args .member * ((o - 1) / t)) (c .before .order .ensures .0) (c .size-of .ensures) in
-    omega (arith, w, power-below s (e .pre .0) (e .args .group) (e .args .member) (e .pre .1) (e .pre .2), q-most (s .field))
+    omega (arith, w, point-power-below s (e .pre .0) (e .args .group) (e .args .member) (e .pre .1) (e .pre .2), q-most (s .field))
 
 generator-power-requires : tie.Need-generator-power-requires
-generator-power-requires c κs = 
+generator-power-requires c κs =
     let e = c .before .before in
     let s = e .args .shape in
     let w = ap₂ (λ o t. e .args .group + e .args .member * ((o - 1) / t)) (c .before .order .ensures .0) (c .size-of .ensures) in
-    rw w (power-below s (e .pre .0) (e .args .group) (e .args .member) (e .pre .1) (e .pre .2))
+    rw w (point-power-below s (e .pre .0) (e .args .group) (e .args .member) (e .pre .1) (e .pre .2))
 
 returns : tie.Need-returns
 unfolding point-at
-returns c = 
+returns c =
     let e = c .before .before .before in
     c .generator-power .ensures
     ∙ ap₂ (λ o t. power (e .args .shape .field) γ (e .args .group + e .args .member * ((o - 1) / t))) (c .before .before .order .ensures .0) (c .before .size-of .ensures)

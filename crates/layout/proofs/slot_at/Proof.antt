@@ -11,7 +11,7 @@ step-of-requires : tie.Need-step-of-requires
 step-of-requires c κs = search needs
 
 mul-result : tie.Need-mul-result
-mul-result c = 
+mul-result c =
     let e = c .before .before in
     omega (
       arith,
@@ -20,7 +20,7 @@ mul-result c =
     )
 
 add-result : tie.Need-add-result
-add-result c = 
+add-result c =
     let e = c .before .before in
     omega (
       arith,
@@ -29,7 +29,7 @@ add-result c =
     )
 
 returns : tie.Need-returns
-returns c = 
+returns c =
     let e = c .before .before in
     slot-is (e .args .shape) (e .args .group) (e .args .member) (c .before .first-of .result) (c .step-of .result) (c .before .first-of .ensures) (c .step-of .ensures)
 

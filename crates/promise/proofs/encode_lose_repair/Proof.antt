@@ -1,13 +1,11 @@
 use borrow.Author.Needs.{needs}
 use mathlib.Core.Path.{_≡_, refl, sym, ap, subst, _∙_}
-use Prim.Native.Nat.{ℕ, _≤_, _<_}
+use Prim.Native.Nat.{_≤_, _<_}
 use native.Mathlib.Omega.{arith}
 use lib.Dec.{ltb, ltb→lt}
-use lib.ListN.{length, take}
+use lib.ListN.{length}
 use lib.Seq.{length-take-le}
 use Rattle.code.specs.Family.{single, code-refusal}
-use Rattle.code.specs.Shape.{mates}
-use Rattle.code.specs.Repair.{symbols-of}
 use Rattle.code.specs.Laws.{Placed, Mending}
 use Rattle.code.proofs.Accepted.{mending-of}
 use Rattle.code.proofs.Bounds.{r-most}

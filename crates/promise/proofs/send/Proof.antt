@@ -1,6 +1,6 @@
 use borrow.Author.Needs.{needs}
 use mathlib.Core.Path.{sym, _∙_}
-use Rattle.promise.proofs.Sending.{left-refused, passed, left-sent}
+use Rattle.promise.proofs.Sending.{left-refused, send-passed, left-sent}
 use Rattle.promise.proofs.send.Statement.{statement}
 use Rattle.promise.proofs.send.Tie as tie
 
@@ -41,7 +41,7 @@ lose-requires c κs =
     let t = c .before .before in
     let a = t .before .before .before .before .before .before .before .before .before .before .before .before .before .before .before .before .args in
     let p
-    = passed (a .code) (a .message .now) (a .marks .now) (a .other .now) (a .codeword .now) (a .word .now) (t .before .before .before .before .before .before .before .before .before .encode .result) (t .before .before .before .before .before .ask .result) (t .before .before .before .ask2 .result)
+    = send-passed (a .code) (a .message .now) (a .marks .now) (a .other .now) (a .codeword .now) (a .word .now) (t .before .before .before .before .before .before .before .before .before .encode .result) (t .before .before .before .before .before .ask .result) (t .before .before .before .ask2 .result)
     (t .before .ask3 .result) (t .before .before .before .before .before .before .before .before .before .encode .last .1 .1 .0) (t .before .before .before .before .before .before .before .before .before .encode .ensures) (t .before .before .before .before .before .ask .ensures) (t .before .before .before .ask2 .ensures) (t .before .ask3 .ensures)
     (t .if1 .left) in
     (p .marks-size ∙ sym (p .codeword-size), p .other-size ∙ sym (p .codeword-size), p .word-size ∙ sym (p .codeword-size))

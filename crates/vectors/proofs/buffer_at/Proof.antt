@@ -2,7 +2,6 @@
 use borrow.Author.Needs.{needs}
 use Prim.Native.Nat.{_≤_, _-_}
 use native.Mathlib.Omega.{arith}
-use lib.ListN.{length}
 use Rattle.vectors.proofs.buffer_at.Statement.{statement}
 use Rattle.vectors.proofs.buffer_at.Tie as tie
 

@@ -3,26 +3,23 @@ use mathlib.Core.Path.{_≡_, refl}
 use Prim.Native.Nat.{_-_}
 use native.Mathlib.Omega.{arith}
 use lib.ListN.{length}
-use Rattle.classroom.proofs.lines.put_mates.Statement.{statement}
-use Rattle.classroom.proofs.lines.put_mates.Tie as tie
+use Rattle.lesson.proofs.put_slots.Statement.{statement}
+use Rattle.lesson.proofs.put_slots.Tie as tie
 
 abbrev Inv-loop : tie.InvT-loop
-Inv-loop text₀ at code slot r next₀ i₀ text next i = length text ≡ length text₀
+Inv-loop text₀ at shape next₀ slot₀ text next slot = length text ≡ length text₀
 
 abbrev μ-loop : tie.MeasureT-loop
-μ-loop text₀ at code slot r next₀ i₀ text next i = code .r - i
+μ-loop text₀ at shape next₀ slot₀ text next slot = shape .n - slot
 
 loop-holds : tie.Need-loop-holds Inv-loop μ-loop
 loop-holds c = refl
 
-mate-of-requires : tie.Need-mate-of-requires Inv-loop μ-loop
-mate-of-requires c κs = search needs
+put-slot-requires : tie.Need-put-slot-requires Inv-loop μ-loop
+put-slot-requires c κs = search needs
 
-put-spaced-requires : tie.Need-put-spaced-requires Inv-loop μ-loop
-put-spaced-requires c κs = search needs
-
-add-i : tie.Need-add-i Inv-loop μ-loop
-add-i c = omega arith
+add-slot : tie.Need-add-slot Inv-loop μ-loop
+add-slot c = omega arith
 
 loop-less : tie.Need-loop-less Inv-loop μ-loop
 loop-less c = omega arith
@@ -36,16 +33,15 @@ same-length c = search needs
 returns : tie.Need-returns Inv-loop μ-loop
 returns c = search needs
 
-pub put-mates-spec : {M : Type 1} → statement M
-put-mates-spec =
+pub put-slots-spec : {M : Type 1} → statement M
+put-slots-spec =
     tie.close
     (tie.spec
     Inv-loop
     μ-loop
     loop-holds
-    mate-of-requires
-    put-spaced-requires
-    add-i
+    put-slot-requires
+    add-slot
     loop-less
     loop-again
     same-length

@@ -3,8 +3,8 @@ use mathlib.Core.Path.{_≡_, refl, _∙_}
 use Prim.Native.Nat.{_≤_, _-_}
 use native.Mathlib.Omega.{arith}
 use lib.ListN.{length, length-set}
-use Rattle.cases.proofs.fill.Statement.{statement}
-use Rattle.cases.proofs.fill.Tie as tie
+use Rattle.cases.proofs.corners.fill.Statement.{statement}
+use Rattle.cases.proofs.corners.fill.Tie as tie
 
 abbrev Inv-loop : tie.InvT-loop
 Inv-loop field message₀ i₀ message i = (i ≤ length message) × (length message ≡ length message₀)

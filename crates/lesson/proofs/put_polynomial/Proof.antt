@@ -3,20 +3,14 @@ use mathlib.Core.Path.{_≡_, refl}
 use Prim.Native.Nat.{_-_}
 use native.Mathlib.Omega.{arith}
 use lib.ListN.{length}
-use Rattle.classroom.proofs.lines.put_polynomial.Statement.{statement}
-use Rattle.classroom.proofs.lines.put_polynomial.Tie as tie
+use Rattle.lesson.proofs.put_polynomial.Statement.{statement}
+use Rattle.lesson.proofs.put_polynomial.Tie as tie
 
 abbrev Inv-loop : tie.InvT-loop
-Inv-loop text₀ at r message next₀ m₀ text next m = length text ≡ length text₀
+Inv-loop text₀ at shape message next₀ m₀ text next m = length text ≡ length text₀
 
 abbrev μ-loop : tie.MeasureT-loop
-μ-loop text₀ at r message next₀ m₀ text next m = length message - m
-
-slice-aggregate-put : tie.Need-slice-aggregate-put Inv-loop μ-loop
-slice-aggregate-put c = omega arith
-
-put-requires : tie.Need-put-requires Inv-loop μ-loop
-put-requires c κs = search needs
+μ-loop text₀ at shape message next₀ m₀ text next m = length message - m
 
 loop-holds : tie.Need-loop-holds Inv-loop μ-loop
 loop-holds c = refl
@@ -42,9 +36,6 @@ loop-less c = omega arith
 loop-again : tie.Need-loop-again Inv-loop μ-loop
 loop-again c = search needs
 
-end-line-requires : tie.Need-end-line-requires Inv-loop μ-loop
-end-line-requires c κs = search needs
-
 same-length : tie.Need-same-length Inv-loop μ-loop
 same-length c = search needs
 
@@ -57,8 +48,6 @@ put-polynomial-spec =
     (tie.spec
     Inv-loop
     μ-loop
-    slice-aggregate-put
-    put-requires
     loop-holds
     shared-slice-read-put-term
     cast-exponent
@@ -67,6 +56,5 @@ put-polynomial-spec =
     add-m
     loop-less
     loop-again
-    end-line-requires
     same-length
     returns)

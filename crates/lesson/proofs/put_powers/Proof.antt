@@ -4,20 +4,14 @@ use Prim.Native.Nat.{_-_}
 use native.Mathlib.Omega.{arith}
 use lib.ListN.{length}
 use Rattle.field.specs.Field.{q}
-use Rattle.classroom.proofs.lines.put_powers.Statement.{statement}
-use Rattle.classroom.proofs.lines.put_powers.Tie as tie
+use Rattle.lesson.proofs.put_powers.Statement.{statement}
+use Rattle.lesson.proofs.put_powers.Tie as tie
 
 abbrev Inv-loop : tie.InvT-loop
 Inv-loop text₀ at next₀ e₀ text next e = length text ≡ length text₀
 
 abbrev μ-loop : tie.MeasureT-loop
 μ-loop text₀ at next₀ e₀ text next e = 12 - e
-
-slice-aggregate-put : tie.Need-slice-aggregate-put Inv-loop μ-loop
-slice-aggregate-put c = omega arith
-
-put-requires : tie.Need-put-requires Inv-loop μ-loop
-put-requires c κs = search needs
 
 loop-holds : tie.Need-loop-holds Inv-loop μ-loop
 loop-holds c = refl
@@ -26,8 +20,8 @@ generator-power-requires : tie.Need-generator-power-requires Inv-loop μ-loop
 unfolding q
 generator-power-requires c κs = omega arith
 
-cast-put-spaced : tie.Need-cast-put-spaced Inv-loop μ-loop
-cast-put-spaced c = omega arith
+wide-requires : tie.Need-wide-requires Inv-loop μ-loop
+wide-requires c κs = search needs
 
 put-spaced-requires : tie.Need-put-spaced-requires Inv-loop μ-loop
 put-spaced-requires c κs = search needs
@@ -41,9 +35,6 @@ loop-less c = omega arith
 loop-again : tie.Need-loop-again Inv-loop μ-loop
 loop-again c = search needs
 
-end-line-requires : tie.Need-end-line-requires Inv-loop μ-loop
-end-line-requires c κs = search needs
-
 same-length : tie.Need-same-length Inv-loop μ-loop
 same-length c = search needs
 
@@ -56,15 +47,12 @@ put-powers-spec =
     (tie.spec
     Inv-loop
     μ-loop
-    slice-aggregate-put
-    put-requires
     loop-holds
     generator-power-requires
-    cast-put-spaced
+    wide-requires
     put-spaced-requires
     add-e
     loop-less
     loop-again
-    end-line-requires
     same-length
     returns)

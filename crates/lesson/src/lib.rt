@@ -1,0 +1,171 @@
+// The lines of the sheet that a class works on paper.
+ghost use Prim.Native.Nat.{_<_, _≤_};
+ghost use lib.ListN.{length};
+ghost use Rattle.code.specs.Laws.{Placed, Mending};
+ghost use Rattle.code.specs.Shape.{groups};
+use code::Shape;
+use console::text::end_line;
+use console::text::put;
+use console::text::put_all;
+use console::text::put_number;
+use console::text::put_spaced;
+use console::text::wide;
+
+// Puts a name and a number.
+fn put_named(text: &mut [u8], at: usize, name: &[u8], n: u32) -> usize {
+    let next = put(text, at, name);
+    put_spaced(text, next, n)
+}
+
+// The twelve powers of 2.
+fn put_powers(text: &mut [u8], at: usize) -> usize {
+    let mut next = at;
+    let mut e: u32 = 0;
+    while e < 12 {
+        next = put_spaced(text, next, wide(field::generator_power(0, e)));
+        e += 1;
+    }
+    next
+}
+
+// The points of a group.
+fn put_points(text: &mut [u8], at: usize, shape: Shape, group: u32) -> usize
+    requires { ⌜ Placed shape × (group < groups shape) ⌝ }
+{
+    let size = layout::size_of(shape);
+    let mut next = at;
+    let mut i: u32 = 0;
+    while i < size {
+        next = put_spaced(text, next, wide(layout::point_at(shape, group, i)));
+        i += 1;
+    }
+    next
+}
+
+// The line of a group.
+fn put_group(text: &mut [u8], at: usize, shape: Shape, group: u32) -> usize
+    requires { ⌜ Placed shape × (group < groups shape) ⌝ }
+{
+    let mut next = put_named(text, at, b"group", group);
+    next = put(text, next, b" points");
+    next = put_points(text, next, shape, group);
+    end_line(text, next)
+}
+
+// A line for each group.
+fn put_groups(text: &mut [u8], at: usize, shape: Shape) -> usize
+    requires { ⌜ Placed shape ⌝ }
+{
+    let groups = layout::groups_of(shape);
+    let mut next = at;
+    let mut group: u32 = 0;
+    while group < groups {
+        next = put_group(text, next, shape, group);
+        group += 1;
+    }
+    next
+}
+
+// The exponent of message symbol m.
+fn exponent(shape: Shape, m: u32) -> u32
+    requires { ⌜ Placed shape × (m < 16) ⌝ }
+{
+    m + shape.tolerance * (m / shape.r)
+}
+
+// A term: the symbol, and x to the exponent.
+fn put_term(text: &mut [u8], at: usize, symbol: u8, e: u32) -> usize {
+    let mut next = put_spaced(text, at, symbol as u32);
+    next = put(text, next, b" x^");
+    put_number(text, next, e)
+}
+
+// The encoding polynomial.
+fn put_polynomial(text: &mut [u8], at: usize, shape: Shape, message: &[u8]) -> usize
+    requires { ⌜ Placed shape × (length (now message) ≤ 16) ⌝ }
+{
+    let mut next = at;
+    let mut m: usize = 0;
+    while m < message.len() {
+        next = put_term(text, next, message[m], exponent(shape, m as u32));
+        m += 1;
+    }
+    next
+}
+
+// The mates of a slot.
+fn put_mates(text: &mut [u8], at: usize, shape: Shape, slot: u32) -> usize
+    requires { ⌜ Mending shape × (slot < shape .n) ⌝ }
+{
+    let mut next = at;
+    let mut i: u32 = 0;
+    while i < shape.r {
+        next = put_spaced(text, next, layout::mate_of(shape, slot, i));
+        i += 1;
+    }
+    next
+}
+
+// The repair weights of a slot.
+fn put_weights(text: &mut [u8], at: usize, shape: Shape, slot: u32) -> usize
+    requires { ⌜ Mending shape ⌝ }
+{
+    let answer = repair::weights_with(0, shape, slot);
+    let weights = answer.weights;
+    put_all(text, at, console::part(&weights, 0, shape.r as usize))
+}
+
+// The line of a slot.
+fn put_slot(text: &mut [u8], at: usize, shape: Shape, slot: u32) -> usize
+    requires { ⌜ Mending shape × (slot < shape .n) ⌝ }
+{
+    let mut next = put_named(text, at, b"slot", slot);
+    next = put(text, next, b" mates");
+    next = put_mates(text, next, shape, slot);
+    next = put(text, next, b" weights");
+    next = put_weights(text, next, shape, slot);
+    end_line(text, next)
+}
+
+// A line for each slot.
+fn put_slots(text: &mut [u8], at: usize, shape: Shape) -> usize
+    requires { ⌜ Mending shape ⌝ }
+{
+    let mut next = at;
+    let mut slot: u32 = 0;
+    while slot < shape.n {
+        next = put_slot(text, next, shape, slot);
+        slot += 1;
+    }
+    next
+}
+
+// The lines of the powers and of the groups.
+fn put_layout(text: &mut [u8], shape: Shape) -> usize
+    requires { ⌜ Placed shape ⌝ }
+{
+    let mut next = put(text, 0, b"powers");
+    next = put_powers(text, next);
+    next = end_line(text, next);
+    put_groups(text, next, shape)
+}
+
+// The lines of a message's encoding polynomial and of its codeword.
+fn put_encoding(text: &mut [u8], at: usize, shape: Shape, message: &[u8], codeword: &[u8]) -> usize
+    requires { ⌜ Placed shape × (length (now message) ≤ 16) ⌝ }
+{
+    let mut next = put(text, at, b"polynomial");
+    next = put_polynomial(text, next, shape, message);
+    next = put(text, next, b"\ncodeword");
+    next = put_all(text, next, codeword);
+    end_line(text, next)
+}
+
+// The sheet of a shape, a message and its codeword.
+pub fn put_sheet(text: &mut [u8], shape: Shape, message: &[u8], codeword: &[u8]) -> usize
+    requires { ⌜ Mending shape × (length (now message) ≤ 16) ⌝ }
+{
+    let mut next = put_layout(text, shape);
+    next = put_encoding(text, next, shape, message, codeword);
+    put_slots(text, next, shape)
+}
