@@ -86,13 +86,14 @@ pub fn put_mended(code: Code, answer: Answer, word: &[u8], marks: &[u8]) {
     show::put_line(marks);
 }
 
-// Room for the solver of the longest code.
+// Work for the longest code, which need not be clear.
 fn work_room() -> [u8; 61455] {
-    [0u8; 61455]
+    [7u8; 61455]
 }
 
-// The line of decode and grade.
-fn put_decoded(code: Code, refusal: u32, grade: Answer, message: &[u8]) {
+// The line of a decode, with the grade of its marks.
+fn put_decoded(code: Code, marks: &[u8], refusal: u32, message: &[u8]) {
+    let grade = losses::grade(code, marks);
     head(b"decode ", code);
     show::put(refusal);
     show::put(grade.refusal);
@@ -100,11 +101,11 @@ fn put_decoded(code: Code, refusal: u32, grade: Answer, message: &[u8]) {
     show::put_line(message);
 }
 
-// Decodes the kept symbols of a word with so many bytes of work, and grades its marks.
+// Decodes the kept symbols of a word with so many bytes of work.
 pub fn decodes(code: Code, word: &[u8], marks: &[u8], used: usize) {
     let mut room = [7u8; 240];
     let mut work = work_room();
     let message = front(&mut room, code.k as usize);
     let refusal = decode::decode(code, word, marks, message, front(&mut work, used));
-    put_decoded(code, refusal, losses::grade(code, marks), message);
+    put_decoded(code, marks, refusal, message);
 }

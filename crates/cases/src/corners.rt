@@ -50,8 +50,9 @@ fn spoiled(code: Code) -> [u8; 255] {
 fn corner(code: Code, used: usize) {
     let mut word_room = spoiled(code);
     let mut marks_room = first_lost();
-    let word = calls::front(&mut word_room, code.n as usize);
-    let marks = calls::front(&mut marks_room, code.n as usize);
+    let n = code.n as usize;
+    let word = calls::front(&mut word_room, n);
+    let marks = calls::front(&mut marks_room, n);
     calls::decodes(code, word, marks, used);
     let answer = pass::local_pass(code, word, marks);
     calls::put_mended(code, answer, word, marks);
