@@ -15,9 +15,9 @@ use Rattle.code.specs.Family.{single, code-refusal}
 use Rattle.code.specs.Repair.{weights}
 use Rattle.code.proofs.Questions.{ask-then, asked, or-ask-passed}
 use Rattle.code.proofs.Answers.{fills-no, fills-yes}
-use Rattle.repair.specs.Weights.{sixteen, weights-refusal as call-refusal, Weights-say}
-use Rattle.repair.specs.declared.RepairWeights.{RepairWeights}
-use Rattle.repair.proofs.Sixteen.{length-sixteen}
+use Rattle.weights.specs.Weights.{sixteen, weights-refusal as call-refusal, Weights-say}
+use Rattle.weights.specs.declared.RepairWeights.{RepairWeights}
+use Rattle.weights.proofs.Sixteen.{length-sixteen}
 use Rattle.binding.specs.Fill.{weights-refusal, Weights-fill}
 
 module _ (c : Code) (p : ℕ) (a : List ℕ) (y : RepairWeights) where

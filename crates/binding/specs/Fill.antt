@@ -10,7 +10,7 @@ use Rattle.code.specs.Question.{ask, or-ask}
 use Rattle.code.specs.Answer.{Fills}
 use Rattle.code.specs.Family.{single, code-refusal}
 use Rattle.code.specs.Repair.{weights}
-use Rattle.repair.specs.Weights.{sixteen}
+use Rattle.weights.specs.Weights.{sixteen}
 
 unfoldable pub weights-refusal : Code → (slot bytes : ℕ) → ℕ
 weights-refusal c p l = or-ask (code-refusal c) (ask (eqb l 16) 5 (ask (ltb p (c .n)) 7 0))

@@ -55,7 +55,7 @@ pub fn encodes(code: Code, message: &[u8], length: usize) {
 
 // The repair weights of a slot.
 pub fn weighs(code: Code, slot: u32) {
-    let answer = repair::weights(code, slot);
+    let answer = weights::weights(code, slot);
     let weights = answer.weights;
     put_bytes(b"weights ", code, answer.refusal, &weights);
 }

@@ -19,7 +19,8 @@ use Rattle.code.specs.Laws.{Placed, Plain}
 use Rattle.code.specs.declared.Shape.{Shape}
 use Rattle.code.proofs.Places.{n-room, whole-room, group-below, member-below, slot-below, slot-group-member, group-slot-at, slot-at-later}
 use Rattle.layout.proofs.Numbers.{slot-is}
-use Rattle.encode.specs.Step.{Group-symbols, Group-written}
+use Rattle.local_code.specs.Step.{Group-symbols}
+use Rattle.encode.specs.Step.{Group-written}
 
 -- the slots of group j, by the numbers f and t that the layout gives
 module _ (s : Shape) (L : Plain s) (j : ℕ) (g : j < groups s) (f t : ℕ) (e : f ≡ first s j) (d : t ≡ step s) where

@@ -110,7 +110,7 @@ fn put_mates(text: &mut [u8], at: usize, shape: Shape, slot: u32) -> usize
 fn put_weights(text: &mut [u8], at: usize, shape: Shape, slot: u32) -> usize
     requires { ⌜ Mending shape ⌝ }
 {
-    let answer = repair::weights_with(0, shape, slot);
+    let answer = weights::weights_with(0, shape, slot);
     let weights = answer.weights;
     put_all(text, at, console::part(&weights, 0, shape.r as usize))
 }

@@ -1,4 +1,4 @@
-pub mod Members
+pub mod Lending
 pub mod Reading
 pub mod Mending
 pub mod Refusals

@@ -1,61 +1,29 @@
 -- The local pass, group by group. Assumes nothing.
---   same-part, mended-part         what the repair of one group does to its part: nothing, or one entry
---   mended-symbol                  and that entry
 --   passed-at, mark-at             slot p's symbol and mark after the pass
 --   at-passed, at-marks            so they are in the buffers
 --   word-step, marks-step, number-step    one group more
 use mathlib.Core.Path.{_≡_, refl, sym, ap, ap₂, _∙_}
-use mathlib.Core.Bool.{Bool, true, false, cond, _&&_}
+use mathlib.Core.Bool.{Bool, true, false, cond}
 use mathlib.Core.List.{List}
 use Prim.Native.Nat.{ℕ, _+_, _≤_, _<_}
-use native.Mathlib.Decide.{ℕ-discrete}
 use native.Mathlib.Omega.{arith}
-use lib.Dec.{eqb}
-use lib.ListN.{length, take, drop, set, length-set}
-use lib.Seq.{getD-set-same, getD-set-other}
-use borrow.Author.Tests.{eqb-true}
-use Rattle.algebra.specs.Sequence.{at, tabulate, count}
-use Rattle.algebra.proofs.Tabulate.{length-tabulate, at-tabulate, tabulate-is}
-use Rattle.algebra.proofs.Counting.{count-yes, count-no, count-one}
+use lib.ListN.{length, take, drop}
+use Rattle.algebra.specs.Sequence.{at, count}
+use Rattle.algebra.proofs.Tabulate.{length-tabulate, at-tabulate}
+use Rattle.algebra.proofs.Counting.{count-yes, count-no}
 use Rattle.algebra.proofs.Filling.{Filled}
 use Rattle.algebra.proofs.Splicing.{splice, filled-part}
-use Rattle.field.specs.Polynomial.{dotted}
 use Rattle.code.specs.declared.Shape.{Shape}
 use Rattle.code.specs.Shape.{size, groups, wired, first, slot-at, mates}
-use Rattle.code.specs.Decoding.{lost}
-use Rattle.code.specs.Repair.{weights, repaired, restored, symbols-of}
+use Rattle.code.specs.Repair.{repaired, symbols-of}
 use Rattle.code.specs.Pass.{mendable, mends, mend, passed, marks-after}
 use Rattle.code.specs.Laws.{Mending}
 use Rattle.code.proofs.Places.{slot-below, whole-room}
-use Rattle.code.proofs.Bounds.{r-most}
 use Rattle.code.proofs.Parts.{Of-group, slot-follows, group-room, part-of}
 use Rattle.code.proofs.Lone.{mends-one, mend-lone}
-use Rattle.repair.specs.Weights.{sixteen}
-use Rattle.repair.proofs.Sixteen.{take-sixteen}
-use Rattle.repair.proofs.Weighing.{take-weights}
-use Rattle.pass.specs.Step.{lone, part-mates, Group-mended}
-use Rattle.pass.proofs.Members.{symbols-part, length-mates-part, lone-part, mends-part}
-
--- entry i of the part xs, or g's value where member i is its group's only loss
-abbrev pub instead : Shape → (marks : List ℕ) → (g : ℕ → ℕ) → (xs : List ℕ) → ℕ → ℕ
-instead s ms g xs i = cond (lost ms i && lone s ms) (g i) (at xs i)
-
-module _ (s : Shape) (ms : List ℕ) (g : ℕ → ℕ) (xs : List ℕ) (h : length xs ≡ size s) where
-  and-false : (a b : Bool) → b ≡ false → a && b ≡ false
-  and-false true b e = e
-  and-false false b e = refl
-
-  pub same-part : lone s ms ≡ false → xs ≡ tabulate (instead s ms g xs) (size s)
-  same-part e = tabulate-is (instead s ms g xs) 0 (size s) xs h (λ i l. rw (and-false (lost ms i) (lone s ms) e) refl)
-
-  pub mended-part : (i v : ℕ) → i < size s → lost ms i ≡ true → lone s ms ≡ true → v ≡ g i
-      → set xs i v ≡ tabulate (instead s ms g xs) (size s)
-  unfolding lone
-  mended-part i v l t e d = tabulate-is (instead s ms g xs) 0 (size s) (set xs i v) (length-set xs i v ∙ h) (λ k b. go k b (ℕ-discrete k i))
-    where
-      go : (k : ℕ) → k < size s → Dec (k ≡ i) → at (set xs i v) k ≡ cond (lost ms k && eqb (count (lost ms) (size s)) 1) (g k) (at xs k)
-      go k b (yes p) = rw (p, t, e) (getD-set-same xs i v 0 (omega arith) ∙ d)
-      go k b (no p) = rw (count-one (lost ms) (size s) i k (eqb-true (count (lost ms) (size s)) 1 e) l b t p) (getD-set-other xs i k v 0 p)
+use Rattle.mending.specs.Step.{part-mates, Group-mended}
+use Rattle.mending.proofs.Members.{symbols-part, lone-part, mends-part}
+use Rattle.mending.proofs.Mended.{instead}
 
 abbrev pub passed-at : Shape → (word marks : List ℕ) → ℕ → ℕ
 passed-at s ws ms p = cond (mends s ms p) (mend s ws ms p) (at ws p)
@@ -149,11 +117,3 @@ module _ (s : Shape) (M : Mending s) (u : wired s ≡ false) (j m k : ℕ) (b : 
         go : (t : Bool) → mendable s ms j ≡ t → count (mendable s ms) j + x ≡ count (mendable s ms) (j + 1)
         go true y = omega (arith, one true y, count-yes (mendable s ms) j y)
         go false y = omega (arith, one false y, count-no (mendable s ms) j y)
-
--- the sum over the arrays of weights and mates' symbols
-pub mended-symbol : (s : Shape) → Mending s → (p : ℕ) → p < s .n → (i : ℕ) (us vs ws : List ℕ) → us ≡ sixteen (weights s p) → vs ≡ sixteen (part-mates s i ws)
-    → dotted (s .field) (take (s .r) us) (take (s .r) vs) ≡ repaired s p (part-mates s i ws)
-unfolding repaired restored weights
-mended-symbol s M p h i us vs ws u v =
-    ap₂ (dotted (s .field)) (take-weights s M p h us u)
-    (ap (take (s .r)) v ∙ take-sixteen (part-mates s i ws) (s .r) (length-mates-part s i ws) (r-most s (M .placed)))

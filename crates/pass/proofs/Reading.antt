@@ -19,9 +19,9 @@ use Rattle.code.specs.Pass.{mendable}
 use Rattle.code.specs.Laws.{Mending}
 use Rattle.code.proofs.Places.{slot-below, group-slot-at, whole-room}
 use Rattle.code.proofs.Parts.{Of-group, slot-follows, first-next, first-all}
+use Rattle.mending.specs.Step.{lone, part-below}
+use Rattle.mending.proofs.Members.{lone-part}
 use Rattle.pass.specs.Pass.{reads, reads-below}
-use Rattle.pass.specs.Step.{lone, part-below}
-use Rattle.pass.proofs.Members.{lone-part}
 
 abbrev pub readable : Shape → (word marks : List ℕ) → (slot : ℕ) → Bool
 readable s ws ms p = not (reads s ms p) || ltb (at ws p) (q (s .field))

@@ -1,47 +1,16 @@
 // The local pass: groups that have lost one slot mend themselves.
 ghost use mathlib.Core.Path.{_≡_};
 ghost use mathlib.Core.Bool.{false};
-ghost use Prim.Native.Nat.{_<_};
 ghost use lib.ListN.{length};
-ghost use Rattle.algebra.specs.Sequence.{at, count};
 ghost use Rattle.field.specs.Table.{Powers, Logs};
-ghost use Rattle.code.specs.Shape.{size, groups, wired};
+ghost use Rattle.code.specs.Shape.{wired};
 ghost use Rattle.code.specs.Family.{single, code-refusal};
-ghost use Rattle.code.specs.Decoding.{lost};
 ghost use Rattle.code.specs.Pass.{passed, marks-after, mended};
 ghost use Rattle.code.specs.Laws.{Mending};
-ghost use Rattle.repair.specs.Weights.{sixteen};
 ghost use Rattle.pass.specs.Pass.{reads-below, pass-refusal, Pass-says};
-ghost use Rattle.pass.specs.Step.{part-below, part-mates, Group-mended};
 use code::Answer;
 use code::Code;
 use code::Shape;
-
-// The place of the only mark that is 1.
-fn lost_member(marks: &[u8]) -> usize
-    requires { ⌜ count (lost (now marks)) (length (now marks)) ≡ 1 ⌝ }
-    ensures { λ x. ⌜ (x < length (now (marks .entry))) × (at (now (marks .entry)) x ≡ 1) ⌝ }
-{
-    let mut i: usize = 0;
-    while i < marks.len() {
-        if marks[i] == 1 {
-            return i;
-        }
-        i += 1;
-    }
-    i
-}
-
-// Whether the kept symbols of a group's part are below q, if the group has exactly one loss.
-fn group_below(shape: Shape, part: &[u8], marks: &[u8]) -> bool
-    requires { ⌜ (length (now part) ≡ size shape) × (length (now marks) ≡ size shape) ⌝ }
-    ensures { λ x. ⌜ x ≡ part-below shape (now (part .entry)) (now (marks .entry)) ⌝ }
-{
-    if questions::losses_in(marks) != 1 {
-        return true;
-    }
-    questions::symbols_below(part, marks, field::order(shape.field))
-}
 
 // Whether every symbol that the pass reads is below q.
 fn pass_below(shape: Shape, word: &[u8], marks: &[u8]) -> bool
@@ -54,7 +23,7 @@ fn pass_below(shape: Shape, word: &[u8], marks: &[u8]) -> bool
     while j < groups {
         let start = layout::first_of(shape, j) as usize;
         let end = start + size;
-        if !group_below(shape, &word[start..end], &marks[start..end]) {
+        if !mending::group_below(shape, &word[start..end], &marks[start..end]) {
             return false;
         }
         j += 1;
@@ -76,54 +45,6 @@ fn pass_refusal(refusal: u32, shape: Shape, word: &[u8], marks: &[u8]) -> u32
     questions::ask(c, pass_below(shape, word, marks), 6)
 }
 
-// The symbols of a group's part at the mates of a member, with zeros after them.
-pub fn mates_of(shape: Shape, part: &[u8], member: u32) -> [u8; 16]
-    requires { ⌜ Mending shape × (member < size shape) × (length (now part) ≡ size shape) ⌝ }
-    ensures { λ x. ⌜ x ≡ sixteen (part-mates shape member (now (part .entry))) ⌝ }
-{
-    let r = shape.r;
-    let mut symbols = [0u8; 16];
-    let mut i: u32 = 0;
-    while i < r {
-        let mate = layout::mate_member(member, i);
-        symbols[i as usize] = part[mate as usize];
-        i += 1;
-    }
-    symbols
-}
-
-// Repairs the lost symbol of a group with exactly one loss: 1 where there was one.
-fn mend_group(
-    shape: Shape,
-    group: u32,
-    part: &mut [u8],
-    marks: &mut [u8],
-    powers: &[u8; 255],
-    logs: &[u8; 256],
-) -> u32
-    requires { ⌜ Powers 1 (now powers) × Logs (now logs) × Mending shape × (group < groups shape) × (length (now part) ≡ size shape) × (length (now marks) ≡ size shape) ⌝ }
-    ensures { λ x. ⌜ Group-mended shape group (now (part .entry)) (now (marks .entry)) x (now (part .exit)) (now (marks .exit)) ⌝ }
-{
-    if questions::losses_in(marks) != 1 {
-        return 0;
-    }
-    let i = lost_member(marks);
-    let member = i as u32;
-    let slot = layout::slot_at(shape, group, member);
-    let weights = repair::weights_of(shape, slot, powers, logs);
-    let mates = mates_of(shape, part, member);
-    part[i] = field::dot(
-        shape.field,
-        &weights,
-        &mates,
-        shape.r as usize,
-        powers,
-        logs,
-    );
-    marks[i] = 0;
-    1
-}
-
 // Lends each group's part of the word and the marks to the repair of one group, and counts the groups repaired.
 pub fn mend_groups(
     shape: Shape,
@@ -142,7 +63,7 @@ pub fn mend_groups(
     while j < all {
         let start = layout::first_of(shape, j) as usize;
         let end = start + size;
-        let one = mend_group(
+        let one = mending::mend_group(
             shape,
             j,
             &mut word[start..end],

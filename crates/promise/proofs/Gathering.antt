@@ -15,13 +15,13 @@ use Rattle.code.proofs.Accepted.{decodable-of, mending-of}
 use Rattle.code.proofs.Places.{n-room, group-below, member-below, slot-group-member}
 use Rattle.code.proofs.Bounds.{r-most}
 use Rattle.code.proofs.Parts.{Of-group}
-use Rattle.repair.specs.Weights.{sixteen}
-use Rattle.repair.proofs.Sixteen.{take-sixteen}
+use Rattle.weights.specs.Weights.{sixteen}
+use Rattle.weights.proofs.Sixteen.{take-sixteen}
 use Rattle.view.specs.View.{View-says}
 use Rattle.view.specs.Promise.{View-holds}
 use Rattle.view.proofs.Promises.{view-holds}
-use Rattle.pass.specs.Step.{part-mates}
-use Rattle.pass.proofs.Members.{symbols-part, length-mates-part}
+use Rattle.mending.specs.Step.{part-mates}
+use Rattle.mending.proofs.Members.{symbols-part, length-mates-part}
 
 module _ (c : Code) (e : code-refusal c ≡ 0) (p : ℕ) (h : p < c .n) (word view : RefT (List ℕ)) (l : length (now word) ≡ c .n)
     (says : View-says (code-refusal c) (single c) p word view) where

@@ -94,7 +94,7 @@ pub fn encode_lose_repair(
     }
     let shape = layout::single(code);
     let part = view::group_view(code, slot, word);
-    let mates = pass::mates_of(shape, part, layout::member_of(shape, slot));
+    let mates = mending::mates_of(shape, part, layout::member_of(shape, slot));
     let r = code.r as usize;
     repair::repair(code, slot, &mates[..r])
 }

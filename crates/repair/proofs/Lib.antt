@@ -1,5 +1,3 @@
-pub mod Sixteen
-pub mod Weighing
 pub mod Refusals
-pub mod Columns
+pub mod Strips
 pub mod Promises

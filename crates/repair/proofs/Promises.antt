@@ -1,54 +1,30 @@
 -- All statements of specs/Promise.antt are proved. Assumes nothing.
 --   promises                    each of them
 use mathlib.Core.Path.{_≡_, refl, sym, ap, _∙_}
-use mathlib.Core.Bool.{true, cond}
-use mathlib.Core.List.{List, [], map}
+use mathlib.Core.Bool.{true}
+use mathlib.Core.List.{List}
 use Prim.Native.Nat.{ℕ, _*_, _≤_, _<_}
 use native.Mathlib.Omega.{arith}
-use borrow.Author.Tests.{eq-eqb}
 use lib.ListN.{length}
-use Rattle.algebra.specs.Sequence.{at, all-below, In, column}
+use Rattle.algebra.specs.Sequence.{at, all-below, column}
 use Rattle.algebra.proofs.Booleans.{yes-true}
 use Rattle.algebra.proofs.Each.{each-index}
 use Rattle.algebra.proofs.Below.{all-below-at, all-below-intro}
 use Rattle.field.specs.Field.{q}
-use Rattle.field.specs.Polynomial.{poly, dotted}
 use Rattle.code.specs.declared.Shape.{Shape}
-use Rattle.code.specs.Shape.{point, others, mates}
+use Rattle.code.specs.Shape.{mates}
 use Rattle.code.specs.Codeword.{encoded}
-use Rattle.code.specs.Repair.{weights, repaired, symbols-of, strip}
+use Rattle.code.specs.Repair.{repaired, symbols-of, strip}
 use Rattle.code.specs.Laws.{Mending}
-use Rattle.code.specs.Promise.{Weights-law, Repair-interpolates, Repairs-back, Strip-restores}
+use Rattle.code.specs.Promise.{Repair-interpolates, Repairs-back, Strip-restores}
 use Rattle.code.proofs.Answers.{fills-in, answers-in}
-use Rattle.code.proofs.Places.{n-room, whole-room}
-use Rattle.code.proofs.Others.{other-is}
 use Rattle.code.proofs.Mates.{mates-number, mates-below, length-symbols, at-symbols}
 use Rattle.code.proofs.Codewords.{length-encoded, encoded-below}
-use Rattle.code.proofs.Weights.{weights-law}
 use Rattle.code.proofs.Interpolating.{repair-interpolates}
 use Rattle.code.proofs.Repairing.{repairs-back, strip-restores}
-use Rattle.repair.specs.Weights.{sixteen, weights-refusal}
 use Rattle.repair.specs.Mates.{mates-refusal, Repair-says, Rebuild-says}
-use Rattle.repair.specs.Promise.{Weights-hold, Repair-holds, Repair-restores, Rebuild-restores, Promises}
-use Rattle.repair.proofs.Weighing.{take-weights}
-use Rattle.repair.proofs.Refusals.{weights-accepted, mates-accepted}
-
--- in a whole group no place is behind the slots
-none-behind : (s : Shape) → Mending s → (p : ℕ) → p < s .n → (o : ℕ) → In o (others s p) → s .n ≤ o → ⊥
-none-behind s M p h o i l =
-    let P = M .placed in
-    omega (arith, other-is s P p (omega (arith, n-room s P)) i .below, whole-room s P (M .whole-groups))
-
-pub weights-hold : Weights-hold
-unfolding Weights-hold Weights-law
-weights-hold s p x M h says =
-    let z = weights-accepted 0 s p refl h in
-    let w = says .weights ∙ ap (λ b. sixteen (cond b (weights s p) [])) (eq-eqb (weights-refusal 0 s p) 0 z) in (
-      says .refusal ∙ z,
-      λ cs l b.
-          ap (λ ws. dotted (s .field) ws (map (λ m. poly (s .field) cs (point s m)) (mates s p))) (take-weights s M p h (x .weights) w)
-          ∙ weights-law s p cs (M .placed) (M .one) h l b (λ o i k. absurd (none-behind s M p h o i k)),
-    )
+use Rattle.repair.specs.Promise.{Repair-holds, Repair-restores, Rebuild-restores, Promises}
+use Rattle.repair.proofs.Refusals.{mates-accepted}
 
 pub repair-holds : Repair-holds
 unfolding Repair-holds Repair-says Repair-interpolates
@@ -88,4 +64,4 @@ rebuild-restores s p strips x a z F M h b t l below says =
     )
 
 pub promises : Promises
-promises = record { weights-hold = weights-hold; repair-holds = repair-holds; repair-restores = repair-restores; rebuild-restores = rebuild-restores }
+promises = record { repair-holds = repair-holds; repair-restores = repair-restores; rebuild-restores = rebuild-restores }

@@ -1,18 +1,17 @@
 -- What is promised of the calls, by their contracts, where the numbers of the code are not refused; for every shape whose groups stand one loss.
 -- Each statement is a type; proofs/Promises.antt proves them all. Assumes nothing: these are statements.
---   Weights-hold        the weights are refused to no slot, and give the slot's value of every polynomial of degree below r
 --   Repair-holds        repair answers the value, at the slot's point, of the one polynomial of degree below r through the mates
 --   Repair-restores     from a codeword's symbols at the mates repair answers the codeword's symbol, whatever became of the other groups
 --   Rebuild-restores    each symbol that strip rebuild restores from such mates is the codeword's, whatever the other columns hold
 --   Promises            all of them
 use mathlib.Core.Path.{_≡_}
 use mathlib.Core.Bool.{true}
-use mathlib.Core.List.{List, map}
+use mathlib.Core.List.{List}
 use Prim.Native.Nat.{ℕ, _*_, _≤_, _<_}
-use lib.ListN.{length, take}
+use lib.ListN.{length}
 use Rattle.algebra.specs.Sequence.{at, all-below, column}
 use Rattle.field.specs.Field.{q}
-use Rattle.field.specs.Polynomial.{poly, dotted}
+use Rattle.field.specs.Polynomial.{poly}
 use Rattle.code.specs.Shape.{point, mates}
 use Rattle.code.specs.Codeword.{encoded}
 use Rattle.code.specs.Repair.{symbols-of}
@@ -20,16 +19,7 @@ use Rattle.code.specs.Laws.{Family, Mending}
 use Rattle.code.specs.Promise.{Message, Interpolates}
 use Rattle.code.specs.declared.Shape.{Shape}
 use Rattle.code.specs.declared.Answer.{Answer}
-use Rattle.repair.specs.Weights.{Weights-say}
 use Rattle.repair.specs.Mates.{Repair-says, Rebuild-says}
-use Rattle.repair.specs.declared.RepairWeights.{RepairWeights}
-
-unfoldable pub Weights-hold : Type 0
-Weights-hold =
-    (s : Shape) (p : ℕ) (x : RepairWeights) → Mending s → p < s .n → Weights-say 0 s p x
-    → (x .refusal ≡ 0)
-    × ((cs : List ℕ) → length cs ≡ s .r → all-below (q (s .field)) cs ≡ true
-    → dotted (s .field) (take (s .r) (x .weights)) (map (λ m. poly (s .field) cs (point s m)) (mates s p)) ≡ poly (s .field) cs (point s p))
 
 -- the answer is the value of the one polynomial through the mates
 pub record Mates-curve (s : Shape) (p : ℕ) (xs : List ℕ) (x : Answer) : Type 0 where
@@ -58,7 +48,6 @@ Rebuild-restores =
     → at z i ≡ at (encoded s xs) p)
 
 pub record Promises : Type 0 where
-  pub weights-hold : Weights-hold
   pub repair-holds : Repair-holds
   pub repair-restores : Repair-restores
   pub rebuild-restores : Rebuild-restores

@@ -1,32 +1,11 @@
--- From the coefficients of the interpolation polynomial to a message, and a way that may give up. Assumes nothing: these are definitions.
---   Pointed s t xs       == xs holds the points of the first t slots, counted group by group
---   gap s j              == the exponent behind block j of r message symbols, which no message symbol has
---   gaps-zero s cs       == the coefficients cs are 0 at the gaps
---   message-of s cs      == the coefficients at the exponents of the message symbols
+-- A way to a verdict that may give up. Assumes nothing: this is a definition.
 --   Tried s ws ms a z x  == the verdict x; or x is 11, which is none, and z is a
 use mathlib.Core.Path.{_≡_}
 use mathlib.Core.Logic.{_≢_}
-use mathlib.Core.Bool.{Bool}
 use mathlib.Core.List.{List}
-use Prim.Native.Nat.{ℕ, _+_, _*_, _-_, _/_, _<_}
-use lib.Dec.{eqb}
-use Rattle.algebra.specs.Sequence.{at, tabulate, every}
-use Rattle.code.specs.Shape.{size, group, member, point}
-use Rattle.code.specs.Basis.{exponent}
+use Prim.Native.Nat.{ℕ}
 use Rattle.code.specs.Verdict.{Verdict}
 use Rattle.code.specs.declared.Shape.{Shape}
-
-abbrev pub Pointed : Shape → (number : ℕ) → (points : List ℕ) → Type 0
-Pointed s t xs = (p : ℕ) → p < s .n → group s p * size s + member s p < t → at xs p ≡ point s p
-
-unfoldable pub gap : Shape → (block : ℕ) → ℕ
-gap s j = j * size s + s .r
-
-unfoldable pub gaps-zero : Shape → (coefs : List ℕ) → Bool
-gaps-zero s cs = every (λ j. eqb (at cs (gap s j)) 0) ((s .k - 1) / s .r)
-
-unfoldable pub message-of : Shape → (coefs : List ℕ) → List ℕ
-message-of s cs = tabulate (λ m. at cs (exponent s m)) (s .k)
 
 abbrev pub Tried : Shape → (word marks before after : List ℕ) → ℕ → Type 0
 Tried s ws ms a z x = (x ≢ 11 → Verdict s ws ms a z x) × (x ≡ 11 → z ≡ a)

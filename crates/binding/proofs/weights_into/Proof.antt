@@ -7,7 +7,7 @@ use Rattle.code.specs.Family.{single}
 use Rattle.code.specs.Laws.{Mending}
 use Rattle.code.proofs.Questions.{or-ask-passed}
 use Rattle.code.proofs.Accepted.{mending-of}
-use Rattle.repair.specs.Weights.{Weights-say}
+use Rattle.weights.specs.Weights.{Weights-say}
 use Rattle.binding.proofs.Weights.{before, room, weights-no, weights-yes, length-weights}
 use Rattle.binding.proofs.weights_into.Statement.{statement}
 use Rattle.binding.proofs.weights_into.Tie as tie

@@ -12,7 +12,7 @@ use Rattle.code.specs.Shape.{size, groups, first}
 use Rattle.code.specs.Pass.{mendable, passed, marks-after, mended}
 use Rattle.code.proofs.Bounds.{n-most, groups-most}
 use Rattle.code.proofs.Parts.{first-none, first-next, first-all, group-room}
-use Rattle.pass.proofs.Members.{length-lent}
+use Rattle.pass.proofs.Lending.{length-lent}
 use Rattle.pass.proofs.Mending.{passed-at, mark-at, word-step, marks-step, number-step}
 use Rattle.pass.proofs.mend_groups.Statement.{statement}
 use Rattle.pass.proofs.mend_groups.Tie as tie

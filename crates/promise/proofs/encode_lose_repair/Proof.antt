@@ -11,7 +11,7 @@ use Rattle.code.proofs.Accepted.{mending-of}
 use Rattle.code.proofs.Bounds.{r-most}
 use Rattle.code.proofs.Questions.{asked, or-ask-passed}
 use Rattle.repair.specs.Mates.{Repair-says}
-use Rattle.repair.proofs.Sixteen.{length-sixteen}
+use Rattle.weights.proofs.Sixteen.{length-sixteen}
 use Rattle.promise.proofs.Returning.{sound, restored-refused, restored-given}
 use Rattle.promise.proofs.Gathering.{seen-size, gathered}
 use Rattle.promise.proofs.encode_lose_repair.Statement.{statement}

@@ -7,8 +7,8 @@ use Rattle.code.specs.Laws.{Mending}
 use Rattle.code.proofs.Bounds.{r-most}
 use Rattle.code.proofs.Answers.{fills-no, fills-yes}
 use Rattle.repair.specs.Mates.{mates-refusal, Rebuild-says}
-use Rattle.repair.proofs.Sixteen.{length-sixteen}
-use Rattle.repair.proofs.Columns.{strip-is}
+use Rattle.weights.proofs.Sixteen.{length-sixteen}
+use Rattle.repair.proofs.Strips.{strip-is}
 use Rattle.repair.proofs.Refusals.{Mates-passed, mates-passed}
 use Rattle.repair.proofs.rebuild_with.Statement.{statement}
 use Rattle.repair.proofs.rebuild_with.Tie as tie

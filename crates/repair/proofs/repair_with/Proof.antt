@@ -7,8 +7,8 @@ use Rattle.code.specs.Laws.{Mending}
 use Rattle.code.proofs.Bounds.{r-most}
 use Rattle.code.proofs.Answers.{answers-no, answers-yes}
 use Rattle.repair.specs.Mates.{mates-refusal, Repair-says}
-use Rattle.repair.proofs.Sixteen.{length-sixteen}
-use Rattle.repair.proofs.Weighing.{dotted-repaired}
+use Rattle.weights.proofs.Sixteen.{length-sixteen}
+use Rattle.weights.proofs.Weighing.{dotted-repaired}
 use Rattle.repair.proofs.Refusals.{Mates-passed, mates-passed}
 use Rattle.repair.proofs.repair_with.Statement.{statement}
 use Rattle.repair.proofs.repair_with.Tie as tie

@@ -1,0 +1,57 @@
+use mathlib.Core.Path.{_≡_}
+use Prim.Native.Nat.{ℕ, _-_, _≤_, _<_}
+use native.Mathlib.Omega.{arith}
+use lib.ListN.{length}
+use borrow.Author.Count.{below-more}
+use borrow.Author.Tests.{ne-eqb}
+use Rattle.algebra.specs.Sequence.{at}
+use Rattle.code.specs.Decoding.{lost}
+use Rattle.algebra.proofs.Counting.{count-none}
+use Rattle.mending.proofs.lost_member.Statement.{statement}
+use Rattle.mending.proofs.lost_member.Tie as tie
+
+abbrev Inv-loop : tie.InvT-loop
+Inv-loop marks i₀ i = (i ≤ length marks) × ((k : ℕ) → k < i → at marks k ≡ 1 → ⊥)
+
+abbrev μ-loop : tie.MeasureT-loop
+μ-loop marks i₀ i = length marks - i
+
+loop-holds : tie.Need-loop-holds Inv-loop μ-loop
+loop-holds c = (omega arith, λ k h. absurd (omega arith))
+
+shared-slice-read-if1 : tie.Need-shared-slice-read-if1 Inv-loop μ-loop
+shared-slice-read-if1 c = omega arith
+
+returns : tie.Need-returns Inv-loop μ-loop
+returns c = (omega arith, c .if1 .taken)
+
+add-i : tie.Need-add-i Inv-loop μ-loop
+add-i c = omega arith
+
+loop-less : tie.Need-loop-less Inv-loop μ-loop
+loop-less c = omega arith
+
+loop-again : tie.Need-loop-again Inv-loop μ-loop
+loop-again c = (omega arith, below-more _ _ (c .before .before .before .loop .inv .1) (c .if1 .left))
+
+returns-2 : tie.Need-returns-2 Inv-loop μ-loop
+unfolding lost
+returns-2 c =
+    let s = c .before .before in
+    let ms = s .args .marks .now in
+    let z = count-none (lost ms) (length ms) (λ i h. ne-eqb (at ms i) 1 (c .before .loop .inv .1 i (omega arith))) in
+    absurd (omega (arith, s .pre))
+
+pub lost-member-spec : {M : Type 1} → statement M
+lost-member-spec =
+    tie.close
+    (tie.spec
+    Inv-loop
+    μ-loop
+    loop-holds
+    shared-slice-read-if1
+    returns
+    add-i
+    loop-less
+    loop-again
+    returns-2)

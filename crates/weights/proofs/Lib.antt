@@ -1,0 +1,4 @@
+pub mod Sixteen
+pub mod Weighing
+pub mod Refusals
+pub mod Promises

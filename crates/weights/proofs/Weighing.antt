@@ -1,0 +1,64 @@
+-- Repair weights as they are worked out. Assumes nothing.
+--   mate-point                       the point of mate i, by the slot's group and member
+--   length-weights, at-weights       weight i is minus the point of mate i by the slot's
+--   take-weights, dotted-repaired    the weights, and a repaired symbol, by the array of weights
+use mathlib.Core.Path.{_≡_, sym, ap, ap₂, _∙_}
+use mathlib.Core.List.{List}
+use Prim.Native.Nat.{ℕ, _<_}
+use native.Mathlib.Omega.{arith}
+use lib.ListN.{length, take, length-map}
+use lib.Seq.{take-all}
+use Rattle.algebra.specs.Sequence.{at}
+use Rattle.algebra.proofs.At.{at-map}
+use Rattle.field.specs.Field.{minus, times, inverse}
+use Rattle.field.specs.Polynomial.{dotted}
+use Rattle.code.specs.declared.Shape.{Shape}
+use Rattle.code.specs.Shape.{group, member, point-at, point, others, mates}
+use Rattle.code.specs.Repair.{weight-over, weights-over, weights, restored, repaired}
+use Rattle.code.specs.Laws.{Placed, Mending}
+use Rattle.code.specs.Promise.{Weights-are}
+use Rattle.code.proofs.Places.{n-room, group-below, group-slot-at, member-slot-at}
+use Rattle.code.proofs.Bounds.{r-most}
+use Rattle.code.proofs.Mates.{mates-number}
+use Rattle.code.proofs.Parity.{weights-are}
+use Rattle.layout.specs.Step.{mate-member}
+use Rattle.layout.proofs.Numbers.{mate-size, mate-is}
+use Rattle.weights.specs.Weights.{sixteen}
+use Rattle.weights.proofs.Sixteen.{take-sixteen}
+
+module _ (s : Shape) (M : Mending s) (p : ℕ) (h : p < s .n) where
+  abbrev P : Placed s
+  P = M .placed
+
+  pub mate-inside : (i : ℕ) → i < s .r → i < length (mates s p)
+  mate-inside i l = omega (arith, mates-number s M p h)
+
+  pub mate-point : (i : ℕ) → i < s .r → point s (at (mates s p) i) ≡ point-at s (group s p) (mate-member (member s p) i)
+  unfolding point
+  mate-point i l =
+      let j = group s p in
+      let m = mate-member (member s p) i in
+      let g = group-below s P p (omega (arith, n-room s P)) in
+      let b = mate-size s P p h i (mate-inside i l) in
+      ap (point s) (mate-is s P p h i (mate-inside i l)) ∙ ap₂ (point-at s) (group-slot-at s P j m g b) (member-slot-at s P j m g b)
+
+  pub length-weights : length (weights s p) ≡ s .r
+  unfolding weights weights-over
+  length-weights = length-map (mates s p) (λ m. weight-over s (point s p) (point s m) m (others s p)) ∙ mates-number s M p h
+
+  pub at-weights : (i : ℕ) → i < s .r
+      → minus (s .field) 0 (times (s .field) (point-at s (group s p) (mate-member (member s p) i)) (inverse (s .field) (point s p))) ≡ at (weights s p) i
+  unfolding Weights-are
+  at-weights i l =
+      let f = s .field in
+      sym (ap (λ ws. at ws i) (weights-are s p P (M .one) h)
+      ∙ at-map (λ m. minus f 0 (times f (point s m) (inverse f (point s p)))) (mates s p) i (mate-inside i l)
+      ∙ ap (λ y. minus f 0 (times f y (inverse f (point s p)))) (mate-point i l))
+
+  -- the first r entries of the array of weights
+  pub take-weights : (ws : List ℕ) → ws ≡ sixteen (weights s p) → take (s .r) ws ≡ weights s p
+  take-weights ws w = ap (take (s .r)) w ∙ take-sixteen (weights s p) (s .r) length-weights (r-most s P)
+
+  pub dotted-repaired : (ws xs : List ℕ) → ws ≡ sixteen (weights s p) → length xs ≡ s .r → dotted (s .field) (take (s .r) ws) (take (s .r) xs) ≡ repaired s p xs
+  unfolding repaired restored weights
+  dotted-repaired ws xs w l = ap₂ (dotted (s .field)) (take-weights ws w) (take-all (s .r) xs (omega arith))
