@@ -2,6 +2,7 @@
 --   wired-yes, wired-no    what the wiring says
 --   group-is, member-is, first-is, step-is, slot-is    the definitions over numbers that were worked out
 --   point-power-below            the exponent of a member's point is below q - 1
+--   worked-below, worked-point    the same, and the point, by a width that was worked out
 --   mate-size, mate-is, mate-slot    a mate by its member
 use mathlib.Core.Path.{_≡_, sym, ap, ap₂, _∙_}
 use mathlib.Core.Logic.{_≢_}
@@ -13,9 +14,9 @@ use borrow.Author.Tests.{eq-eqb, ne-eqb, lt-ltb, le-ltb}
 use lib.ListN.{length}
 use Rattle.algebra.specs.Sequence.{at}
 use Rattle.algebra.proofs.Each.{each-index}
-use Rattle.field.specs.Field.{q}
+use Rattle.field.specs.Field.{q, γ, power}
 use Rattle.code.specs.declared.Shape.{Shape}
-use Rattle.code.specs.Shape.{size, groups, wired, group, member, first, step, members, slot-at, mates}
+use Rattle.code.specs.Shape.{size, groups, wired, group, member, first, step, members, slot-at, point-at, mates}
 use Rattle.code.specs.Laws.{Placed}
 use Rattle.code.proofs.Places.{slot-below, group-slot-at, member-slot-at}
 use Rattle.code.proofs.Bounds.{room-byte}
@@ -52,6 +53,10 @@ module _ (s : Shape) where
   unfolding slot-at
   slot-is j i f t e d = ap₂ (λ f t. f + i * t) e d
 
+pub worked-point : (s : Shape) (j i w : ℕ) → w ≡ (q (s .field) - 1) / size s → power (s .field) γ (j + i * w) ≡ point-at s j i
+unfolding point-at
+worked-point s j i w e = ap (λ w. power (s .field) γ (j + i * w)) e
+
 module _ (s : Shape) (P : Placed s) where
   pub slot-byte : (j i : ℕ) → j < groups s → i < size s → slot-at s j i < 255
   slot-byte j i g h = omega (arith, slot-below s P j i g h, room-byte s P)
@@ -59,6 +64,10 @@ module _ (s : Shape) (P : Placed s) where
   pub point-power-below : (j i : ℕ) → j < groups s → i < size s → j + i * ((q (s .field) - 1) / size s) < q (s .field) - 1
   point-power-below j i g h =
       rw (group-slot-at s P j i g h, member-slot-at s P j i g h) at (exponent-below s P (slot-at s j i) (slot-below s P j i g h))
+
+  -- the same by a width that was worked out, and the point
+  pub worked-below : (j i w : ℕ) → j < groups s → i < size s → w ≡ (q (s .field) - 1) / size s → j + i * w < q (s .field) - 1
+  worked-below j i w g h e = rw e (point-power-below j i g h)
 
   module _ (p : ℕ) (h : p < s .n) (i : ℕ) (l : i < length (mates s p)) where
     members-more : suc i < members s (group s p)

@@ -1,9 +1,9 @@
 // Where the symbols of a code stand: questions 1 to 4, repair groups, slots, mates and evaluation points. No other crate divides by the group size.
 ghost use mathlib.Core.Path.{_≡_};
-ghost use Prim.Native.Nat.{_-_, _≤_, _<_};
+ghost use Prim.Native.Nat.{_+_, _*_, _-_, _/_, _≤_, _<_};
 ghost use lib.ListN.{length};
 ghost use Rattle.algebra.specs.Sequence.{at};
-ghost use Rattle.field.specs.Field.{q};
+ghost use Rattle.field.specs.Field.{q, γ, power};
 ghost use Rattle.code.specs.Question.{ask};
 ghost use Rattle.code.specs.Family.{single, n-fits, k-fits, code-refusal};
 ghost use Rattle.code.specs.Shape.{size, groups, missing, group, member, first, step, slot-at, point-at, point, mates};
@@ -153,14 +153,28 @@ pub fn member_of(shape: Shape, slot: u32) -> u32
     slot % size_of(shape)
 }
 
+// How far apart the exponents of the points of a group's members are: (q - 1) / size.
+pub fn width_of(shape: Shape) -> u32
+    requires { ⌜ Placed shape ⌝ }
+    ensures { λ x. ⌜ x ≡ (q (shape .field) - 1) / size shape ⌝ }
+{
+    (field::order(shape.field) - 1) / size_of(shape)
+}
+
+// The evaluation point of a member of a group, by that width: for loops, which work it out once.
+pub fn member_point(field: u32, width: u32, group: u32, member: u32) -> u8
+    requires { ⌜ group + member * width < q field - 1 ⌝ }
+    ensures { λ x. ⌜ x ≡ power field γ (group + member * width) ⌝ }
+{
+    field::generator_power(field, group + member * width)
+}
+
 // The evaluation point of a member of a group.
 pub fn point_at(shape: Shape, group: u32, member: u32) -> u8
     requires { ⌜ Placed shape × (group < groups shape) × (member < size shape) ⌝ }
     ensures { λ x. ⌜ x ≡ point-at shape group member ⌝ }
 {
-    let field = shape.field;
-    let width = (field::order(field) - 1) / size_of(shape);
-    field::generator_power(field, group + member * width)
+    member_point(shape.field, width_of(shape), group, member)
 }
 
 // The evaluation point of a slot.

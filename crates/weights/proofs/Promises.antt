@@ -1,6 +1,6 @@
 -- The statement of specs/Promise.antt is proved. Assumes nothing.
 --   promises                    it
-use mathlib.Core.Path.{_≡_, refl, ap, _∙_}
+use mathlib.Core.Path.{refl, ap, _∙_}
 use mathlib.Core.Bool.{cond}
 use mathlib.Core.List.{[], map}
 use Prim.Native.Nat.{ℕ, _≤_, _<_}

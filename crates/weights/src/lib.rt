@@ -24,13 +24,14 @@ pub fn weights_of(shape: Shape, slot: u32, powers: &[u8; 255], logs: &[u8; 256])
     let r = shape.r;
     let group = layout::group_of(shape, slot);
     let member = layout::member_of(shape, slot);
-    let x = layout::point_at(shape, group, member);
+    let width = layout::width_of(shape);
+    let x = layout::member_point(field, width, group, member);
     let inverse = field::inverse_of(field, x, powers, logs);
     let mut weights = [0u8; 16];
     let mut i: u32 = 0;
     while i < r {
         let mate = layout::mate_member(member, i);
-        let y = layout::point_at(shape, group, mate);
+        let y = layout::member_point(field, width, group, mate);
         let t = field::mul(field, y, inverse, powers, logs);
         let w = field::sub(field, 0, t);
         weights[i as usize] = w;
