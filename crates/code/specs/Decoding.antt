@@ -1,4 +1,5 @@
 -- What decoding has to find: the messages whose codewords agree with all kept symbols. Assumes nothing: these are definitions.
+-- The paper's words: a mark says of a slot whether its symbol is an erasure; a lost slot is an erased one.
 --   lost ms p            == slot p is lost: its mark is 1
 --   agrees s cs ws ms    == the word cs has the symbols of ws at every kept slot
 --   fits s ws ms xs      == xs is a message, and its codeword agrees
