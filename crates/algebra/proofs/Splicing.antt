@@ -1,14 +1,17 @@
 -- A buffer filled stretch by stretch: a part that was lent out and has come back. Assumes nothing.
 --   splice m k z xs    == the list z with xs in the place of the k entries from m on
 --   filled-part        a buffer filled as far as m is filled as far as m + k
+--   laid-splice        a list laid down in a buffer stands in the place of what was there
+--   laid-front, laid-all    it is the front of the buffer, or all of it
 use mathlib.Core.Path.{_≡_, sym, ap, _∙_}
 use mathlib.Core.List.{List, _++_}
 use Prim.Native.Nat.{ℕ, _+_, _-_, _≤_, _<_}
 use native.Mathlib.Decide.{decLt}
 use native.Mathlib.Omega.{arith}
 use lib.ListN.{length, take, drop, length-append, length-drop, List·getD-append}
-use lib.Seq.{length-take-le, getD-append-add, getD-take, getD-drop}
+use lib.Seq.{length-take-le, take-all, getD-append-add, getD-take, getD-drop, ext-getD}
 use Rattle.algebra.specs.Sequence.{at}
+use Rattle.algebra.specs.Writing.{Laid}
 use Rattle.algebra.proofs.Filling.{Filled}
 
 abbrev pub splice : (m k : ℕ) → (z xs : List ℕ) → List ℕ
@@ -53,3 +56,28 @@ filled-part f m k a z xs F h e g =
         let s : i ≡ m + (i - m) = omega arith in
         let d : i - m < k = omega arith in
         ap (at (splice m k z xs)) s ∙ within m k z xs l e (i - m) d ∙ g (i - m) d ∙ ap f (sym s)
+
+-- h are the entries of xs
+module _ (xs : List ℕ) (h : ℕ → ℕ) (n : ℕ) (e : length xs ≡ n) (same : (i : ℕ) → i < n → h i ≡ at xs i) (a z : List ℕ) where
+  pub laid-splice : (d : ℕ) → d + n ≤ length a → Laid h d n a z → z ≡ splice d n a xs
+  laid-splice d l L =
+      ext-getD 0 z (splice d n a xs) (L .written .size ∙ sym (length-splice d n a xs l e)) (λ i b. go i (decLt i d) (decLt i (d + n)))
+    where
+      go : (i : ℕ) → Dec (i < d) → Dec (i < d + n) → at z i ≡ at (splice d n a xs) i
+      go i (yes p) q = L .written .before i p ∙ sym (before d n a xs l e i p)
+      go i (no p) (yes q) =
+          let s : i ≡ d + (i - d) = omega arith in
+          let b : i - d < n = omega arith in
+          L .written .put i (omega arith) q ∙ same (i - d) b ∙ sym (within d n a xs l e (i - d) b) ∙ ap (at (splice d n a xs)) (sym s)
+      go i (no p) (no q) = L .written .behind i (omega arith) ∙ sym (after d n a xs l e i (omega arith))
+
+  pub laid-front : n ≤ length a → Laid h 0 n a z → take n z ≡ xs
+  laid-front l L =
+      let t : length (take n z) ≡ n = length-take-le n z (omega (arith, L .written .size)) in
+      ext-getD 0 (take n z) xs (t ∙ sym e)
+      (λ i b.
+      let s : i - 0 ≡ i = omega arith in
+      getD-take n z i 0 (omega arith) ∙ L .written .put i (omega arith) (omega arith) ∙ ap h s ∙ same i (omega arith))
+
+  pub laid-all : length a ≡ n → Laid h 0 n a z → z ≡ xs
+  laid-all l L = sym (take-all n z (omega (arith, L .written .size))) ∙ laid-front (omega arith) L

@@ -1,4 +1,2 @@
 pub mod Pack
 pub mod Fill
-pub mod Record
-pub mod Sheet

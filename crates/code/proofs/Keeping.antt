@@ -13,7 +13,6 @@ use Rattle.algebra.specs.Sequence.{at, In}
 use Rattle.algebra.proofs.Booleans.{yes-true, no-false}
 use Rattle.algebra.proofs.Each.{each-intro, each-at, map-each}
 use Rattle.algebra.proofs.At.{at-past}
-use Rattle.algebra.proofs.Tabulate.{at-tabulate}
 use Rattle.algebra.proofs.Every.{every-intro}
 use Rattle.code.specs.declared.Shape.{Shape}
 use Rattle.code.specs.Shape.{group}
@@ -25,7 +24,7 @@ use Rattle.code.specs.Laws.{Family}
 use Rattle.code.specs.Promise.{Before-and-after}
 use Rattle.code.proofs.Codewords.{Message-is, message-is, length-encoded}
 use Rattle.code.proofs.Decoding.{agrees-at, agrees-kept}
-use Rattle.code.proofs.Passing.{kept-kept, mend-restores, mends-stands}
+use Rattle.code.proofs.Passing.{at-passed, at-marks, kept-kept, mend-restores, mends-stands}
 
 both-ways : (a b : Bool) → (T a → T b) → (T b → T a) → a ≡ b
 both-ways true b h l = sym (yes-true b (h tt))
@@ -45,14 +44,6 @@ module _ (s : Shape) (F : Family s) (xs ws ms : List ℕ) (long : length ws ≡ 
 
   -- a slot after the pass, by whether it mends it
   module _ (p : ℕ) (h : p < s .n) where
-    word-after : at (passed s ws ms) p ≡ cond (mends s ms p) (mend s ws ms p) (at ws p)
-    unfolding passed
-    word-after = at-tabulate (λ p. cond (mends s ms p) (mend s ws ms p) (at ws p)) 0 (s .n) p h
-
-    mark-after : at (marks-after s ms) p ≡ cond (mends s ms p) 0 (at ms p)
-    unfolding marks-after
-    mark-after = at-tabulate (λ p. cond (mends s ms p) 0 (at ms p)) 0 (s .n) p h
-
     kept-not-mended : lost ms p ≡ false → mends s ms p ≡ false
     unfolding mends
     kept-not-mended k = ap (λ b. b && mendable s ms (group s p)) k
@@ -66,8 +57,8 @@ module _ (s : Shape) (F : Family s) (xs ws ms : List ℕ) (long : length ws ≡ 
         ≡ (eqb (cond b 0 (at ms p)) 1 || eqb (at (encoded s xs) p) (cond b (mend s ws ms p) (at ws p)))
     unfolding agrees-here lost
     after-is b e =
-        ap₂ (λ m w. eqb m 1 || eqb (at (encoded s xs) p) w) (mark-after ∙ ap (λ b. cond b 0 (at ms p)) e)
-        (word-after ∙ ap (λ b. cond b (mend s ws ms p) (at ws p)) e)
+        ap₂ (λ m w. eqb m 1 || eqb (at (encoded s xs) p) w) (at-marks s ws ms p h ∙ ap (λ b. cond b 0 (at ms p)) e)
+        (at-passed s ws ms p h ∙ ap (λ b. cond b (mend s ws ms p) (at ws p)) e)
 
     onward : Message-is s xs → agrees s (encoded s xs) ws ms ≡ true → T (agrees-here (passed s ws ms) (marks-after s ms))
     unfolding agrees-here lost

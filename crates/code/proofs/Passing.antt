@@ -1,6 +1,8 @@
 -- The local pass: the places of a group that are kept, and what it leaves in a slot that it mends. Assumes nothing.
 --   length-kept, kept-distinct, kept-are, kept-kept    the kept places of a group
 --   sources-enough                          a group that stands keeps r of them
+--   passed-at, mark-at                      slot p's symbol and mark after the pass
+--   at-passed, at-marks                     so they are in the buffers
 --   pass-mends                              Pass-mends of specs/Promise.antt
 use mathlib.Core.Path.{_≡_, refl, sym, ap, _∙_}
 use mathlib.Core.Logic.{_≢_}
@@ -25,7 +27,7 @@ use Rattle.code.specs.Codeword.{symbol, encoded}
 use Rattle.code.specs.Decoding.{lost}
 use Rattle.code.specs.Erasure.{group-losses, stands}
 use Rattle.code.specs.Repair.{restored, symbols-of}
-use Rattle.code.specs.Pass.{kept-from, kept-places, sources, mendable, mends, mend, passed}
+use Rattle.code.specs.Pass.{kept-from, kept-places, sources, mendable, mends, mend, passed, marks-after}
 use Rattle.code.specs.Laws.{Placed, Family}
 use Rattle.code.specs.Promise.{Pass-mends}
 use Rattle.code.proofs.Places.{n-room, group-below, slot-below, group-slot-at, slot-at-injective}
@@ -33,6 +35,21 @@ use Rattle.code.proofs.Codewords.{Message-is, message-is, length-encode
 use Rattle.code.proofs.Fronts.{each-take, in-take, distinct-take}
 use Rattle.code.proofs.Distance.{symbol-behind}
 use Rattle.code.proofs.Repairing.{restores-place}
+
+abbrev pub passed-at : Shape → (word marks : List ℕ) → ℕ → ℕ
+passed-at s ws ms p = cond (mends s ms p) (mend s ws ms p) (at ws p)
+
+abbrev pub mark-at : Shape → (marks : List ℕ) → ℕ → ℕ
+mark-at s ms p = cond (mends s ms p) 0 (at ms p)
+
+module _ (s : Shape) (ws ms : List ℕ) (p : ℕ) (h : p < s .n) where
+  pub at-passed : at (passed s ws ms) p ≡ passed-at s ws ms p
+  unfolding passed
+  at-passed = at-tabulate (passed-at s ws ms) 0 (s .n) p h
+
+  pub at-marks : at (marks-after s ms) p ≡ mark-at s ms p
+  unfolding marks-after
+  at-marks = at-tabulate (mark-at s ms) 0 (s .n) p h
 
 module _ (s : Shape) (P : Placed s) (ms : List ℕ) (j : ℕ) where
   gone : ℕ → Bool

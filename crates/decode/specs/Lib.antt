@@ -1,4 +1,3 @@
 pub mod Decode
-pub mod Recording
 pub mod Promise
 pub mod Step

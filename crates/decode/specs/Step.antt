@@ -1,8 +1,6 @@
 -- What private steps of decode are handed. Assumes nothing: these are definitions.
 --   Handed s ws ms a b   == what the questions of decode leave: an accepted shape, and buffers of their lengths with kept symbols below q
---   Is-verdict x         == x is one of the numbers that an outcome has
 use mathlib.Core.Path.{_≡_}
-use mathlib.Core.Logic.{_≢_}
 use mathlib.Core.Bool.{true}
 use mathlib.Core.List.{List}
 use Prim.Native.Nat.{ℕ, _+_, _*_, _≤_}
@@ -19,6 +17,3 @@ pub record Handed (s : Shape) (word marks : List ℕ) (message work : ℕ) : Typ
   pub message-size : message ≡ s .k
   pub work-size : s .n * (s .k + 1) ≤ work
   pub kept : kept-below s word marks ≡ true
-
-abbrev pub Is-verdict : ℕ → Type 0
-Is-verdict x = x ≢ 0 → x ≢ 9 → x ≡ 10

@@ -1,4 +1,4 @@
-// Decoding, and the stripe's record.
+// Decoding: the questions, then the message that alone agrees with the kept symbols.
 ghost use mathlib.Core.Path.{_≡_};
 ghost use mathlib.Core.Bool.{true};
 ghost use Prim.Native.Nat.{_*_, _+_, _≤_};
@@ -8,36 +8,12 @@ ghost use Rattle.code.specs.Erasure.{kept-below};
 ghost use Rattle.code.specs.Verdict.{Verdict};
 ghost use Rattle.code.specs.Laws.{Decodable};
 ghost use Rattle.decode.specs.Decode.{decode-refusal, cleared, Decode-says};
-ghost use Rattle.decode.specs.Recording.{outcome-number, blank, Record-says};
-ghost use Rattle.decode.specs.Step.{Handed, Is-verdict};
+ghost use Rattle.decode.specs.Step.{Handed};
 use code::Code;
 use code::Shape;
 
-// What became of a stripe: its message is decided, no codeword agrees, or more than one does.
-pub enum Outcome {
-    Decided,
-    Foreign,
-    Undecided,
-}
-
-// A stripe's record: its code, the number lost, the guarantee, the grade, the first broken group, and the outcome.
-pub struct StripeRecord {
-    pub code: Code,
-    pub lost: u32,
-    pub guarantee: u32,
-    pub grade: u32,
-    pub first: u32,
-    pub outcome: Outcome,
-}
-
-// A refusal number, and a record that is blank on a refusal.
-pub struct Recorded {
-    pub refusal: u32,
-    pub record: StripeRecord,
-}
-
 // The refusal of decode after that of its code, or 0; message and work are their buffers' lengths.
-fn decode_refusal(
+pub fn decode_refusal(
     refusal: u32,
     shape: Shape,
     word: &[u8],
@@ -66,7 +42,7 @@ fn decode_refusal(
 }
 
 // Settles a word that no question refuses, in the front of work.
-fn settle(shape: Shape, word: &[u8], marks: &[u8], message: &mut [u8], work: &mut [u8]) -> u32
+pub fn settle(shape: Shape, word: &[u8], marks: &[u8], message: &mut [u8], work: &mut [u8]) -> u32
     requires { ⌜ Handed shape (now word) (now marks) (length (now message)) (length (now work)) ⌝ }
     ensures { λ x. ⌜ Verdict shape (now (word .entry)) (now (marks .entry)) (now (message .entry)) (now (message .exit)) x × (now (work .exit) ≡ cleared shape (now (work .entry))) ⌝ }
 {
@@ -101,108 +77,6 @@ pub fn decode(code: Code, word: &[u8], marks: &[u8], message: &mut [u8], work: &
 {
     decode_with(
         layout::code_refusal(code),
-        layout::single(code),
-        word,
-        marks,
-        message,
-        work,
-    )
-}
-
-// The outcome that a verdict 0, 9 or 10 stands for.
-fn outcome_of(verdict: u32) -> Outcome
-    requires { ⌜ Is-verdict verdict ⌝ }
-    ensures { λ x. ⌜ outcome-number x ≡ verdict ⌝ }
-{
-    match verdict {
-        0 => Outcome::Decided,
-        9 => Outcome::Foreign,
-        _ => Outcome::Undecided,
-    }
-}
-
-// The paper's number of an outcome.
-pub fn outcome_number(outcome: Outcome) -> u32
-    ensures { λ x. ⌜ x ≡ outcome-number outcome ⌝ }
-{
-    match outcome {
-        Outcome::Decided => 0,
-        Outcome::Foreign => 9,
-        Outcome::Undecided => 10,
-    }
-}
-
-// The record of a refusal: every field 0, and undecided.
-fn blank_record() -> StripeRecord
-    ensures { λ x. ⌜ x ≡ blank ⌝ }
-{
-    let code = Code {
-        field: 0,
-        r: 0,
-        n: 0,
-        k: 0,
-    };
-    StripeRecord {
-        code,
-        lost: 0,
-        guarantee: 0,
-        grade: 0,
-        first: 0,
-        outcome: Outcome::Undecided,
-    }
-}
-
-// The record of any family: after its code's refusal.
-pub fn record_with(
-    refusal: u32,
-    code: Code,
-    shape: Shape,
-    word: &[u8],
-    marks: &[u8],
-    message: &mut [u8],
-    work: &mut [u8],
-) -> Recorded
-    requires { ⌜ (refusal ≡ 0 → Decodable shape) ⌝ }
-    ensures { λ x. ⌜ Record-says refusal code shape (now (word .entry)) (now (marks .entry)) x (now (message .entry)) (now (message .exit)) (now (work .entry)) (now (work .exit)) ⌝ }
-{
-    let asked = decode_refusal(refusal, shape, word, marks, message.len(), work.len());
-    if asked != 0 {
-        let record = blank_record();
-        return Recorded {
-            refusal: asked,
-            record,
-        };
-    }
-    let verdict = settle(shape, word, marks, message, work);
-    let lost = losses::count_lost(shape, marks);
-    let guarantee = losses::guarantee_of(shape);
-    let grade = losses::grade_of(shape, marks);
-    let first = losses::first_group(shape, marks);
-    let outcome = outcome_of(verdict);
-    let record = StripeRecord {
-        code,
-        lost,
-        guarantee,
-        grade,
-        first,
-        outcome,
-    };
-    Recorded { refusal: 0, record }
-}
-
-// Decodes a stripe and draws up its record; no codeword and more than one are outcomes.
-pub fn record(
-    code: Code,
-    word: &[u8],
-    marks: &[u8],
-    message: &mut [u8],
-    work: &mut [u8],
-) -> Recorded
-    ensures { λ x. ⌜ Record-says (code-refusal code) code (single code) (now (word .entry)) (now (marks .entry)) x (now (message .entry)) (now (message .exit)) (now (work .entry)) (now (work .exit)) ⌝ }
-{
-    record_with(
-        layout::code_refusal(code),
-        code,
         layout::single(code),
         word,
         marks,

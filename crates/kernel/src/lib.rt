@@ -31,7 +31,7 @@ fn widen(strips: &[u8], r: usize, l: usize, rows: &mut [u8])
 {
     let mut j: usize = 0;
     while j < r {
-        tiles::copy(strips, j * l, l, rows, j * 64);
+        copying::copy(strips, j * l, l, rows, j * 64);
         j += 1;
     }
 }
@@ -46,7 +46,7 @@ fn combine_short(weights: &[u8; 16], r: usize, strips: &[u8], output: &mut [u8])
     let mut sums = [0u8; 64];
     widen(strips, r, l, &mut rows);
     tiles::combine_long(weights, r, &rows, &mut sums);
-    tiles::copy(&sums, 0, l, output, 0);
+    copying::copy(&sums, 0, l, output, 0);
 }
 
 // The sums over strips with any weights.

@@ -4,16 +4,16 @@ ghost use Rattle.code.specs.Answer.{Answers};
 ghost use Rattle.code.specs.Family.{code-of, single, code-refusal};
 ghost use Rattle.encode.specs.Encode.{Encode-says};
 ghost use Rattle.repair.specs.Mates.{Repair-says, Rebuild-says};
-ghost use Rattle.view.specs.View.{view-refusal};
+ghost use Rattle.view.specs.View.{view-refusal, first-slot};
 ghost use Rattle.pass.specs.Pass.{Pass-says};
 ghost use Rattle.losses.specs.Losses.{Grade-says};
 ghost use Rattle.decode.specs.Decode.{Decode-says};
 ghost use Rattle.sheet.specs.Calls.{Write-says};
 ghost use Rattle.reporting.specs.Report.{Report-says};
-ghost use Rattle.binding.specs.Pack.{unpacked, first-slot};
+ghost use Rattle.binding.specs.Pack.{unpacked};
 ghost use Rattle.binding.specs.Fill.{Weights-fill};
-ghost use Rattle.binding.specs.Record.{Record-fills};
-ghost use Rattle.binding.specs.Sheet.{Read-fills};
+ghost use Rattle.record_binding.specs.Record.{Record-fills};
+ghost use Rattle.sheet_binding.specs.Sheet.{Read-fills};
 use binding::packed;
 use code::Code;
 
@@ -83,7 +83,7 @@ pub extern "C" fn latsefidy_rebuild(
 pub extern "C" fn latsefidy_view(field: u32, r: u32, n: u32, k: u32, slot: u32, word: &[u8]) -> u64
     ensures { λ x. ⌜ Answers (view-refusal (code-refusal (code-of field r n k)) (single (code-of field r n k)) slot (now (word .entry))) (first-slot (code-of field r n k) slot) (unpacked x) ⌝ }
 {
-    packed(binding::view_first(Code { field, r, n, k }, slot, word))
+    packed(view::view_first(Code { field, r, n, k }, slot, word))
 }
 
 // Repairs each group with exactly one loss, and answers how many.
@@ -141,7 +141,7 @@ pub extern "C" fn latsefidy_record(
 ) -> u32
     ensures { λ x. ⌜ Record-fills (code-of field r n k) (now (word .entry)) (now (marks .entry)) x (now (message .entry)) (now (message .exit)) (now (work .entry)) (now (work .exit)) (now (numbers .entry)) (now (numbers .exit)) ⌝ }
 {
-    binding::record_into(Code { field, r, n, k }, word, marks, message, work, numbers)
+    record_binding::record_into(Code { field, r, n, k }, word, marks, message, work, numbers)
 }
 
 // Reads a stripe sheet.
@@ -154,7 +154,7 @@ pub extern "C" fn latsefidy_read_sheet(
 ) -> u32
     ensures { λ x. ⌜ Read-fills (now (sheet .entry)) x (now (word .entry)) (now (word .exit)) (now (marks .entry)) (now (marks .exit)) (now (code .entry)) (now (code .exit)) ⌝ }
 {
-    binding::read_into(sheet, word, marks, code)
+    sheet_binding::read_into(sheet, word, marks, code)
 }
 
 // Writes a stripe sheet.
@@ -178,5 +178,5 @@ pub extern "C" fn latsefidy_write_sheet(
 pub extern "C" fn latsefidy_report(input: &[u8], text: &mut [u8]) -> u64
     ensures { λ x. ⌜ Report-says (take 1032 (now (input .entry))) (now (text .entry)) (now (text .exit)) (unpacked x) ⌝ }
 {
-    packed(binding::report_front(input, text))
+    packed(reporting::report_front(input, text))
 }

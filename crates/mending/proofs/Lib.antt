@@ -1,2 +1,4 @@
 pub mod Members
 pub mod Mended
+pub mod Lending
+pub mod Groups

@@ -1,11 +1,13 @@
-// The repair of one group that has lost one slot, in its part of a word.
+// Groups that have lost one slot mend themselves: the repair of one group in its part of a word, and of every group.
 ghost use mathlib.Core.Path.{_≡_};
+ghost use mathlib.Core.Bool.{false};
 ghost use Prim.Native.Nat.{_<_};
 ghost use lib.ListN.{length};
 ghost use Rattle.algebra.specs.Sequence.{at, count};
 ghost use Rattle.field.specs.Table.{Powers, Logs};
-ghost use Rattle.code.specs.Shape.{size, groups};
+ghost use Rattle.code.specs.Shape.{size, groups, wired};
 ghost use Rattle.code.specs.Decoding.{lost};
+ghost use Rattle.code.specs.Pass.{passed, marks-after, mended};
 ghost use Rattle.code.specs.Laws.{Mending};
 ghost use Rattle.weights.specs.Weights.{sixteen};
 ghost use Rattle.mending.specs.Step.{part-below, part-mates, Group-mended};
@@ -83,4 +85,36 @@ pub fn mend_group(
     );
     marks[i] = 0;
     1
+}
+
+// Lends each group's part of the word and the marks to the repair of one group, and counts the groups repaired.
+pub fn mend_groups(
+    shape: Shape,
+    word: &mut [u8],
+    marks: &mut [u8],
+    powers: &[u8; 255],
+    logs: &[u8; 256],
+) -> u32
+    requires { ⌜ Powers 1 (now powers) × Logs (now logs) × Mending shape × (wired shape ≡ false) × (length (now word) ≡ shape .n) × (length (now marks) ≡ shape .n) ⌝ }
+    ensures { λ x. ⌜ (now (word .exit) ≡ passed shape (now (word .entry)) (now (marks .entry))) × (now (marks .exit) ≡ marks-after shape (now (marks .entry))) × (x ≡ mended shape (now (marks .entry))) ⌝ }
+{
+    let size = layout::size_of(shape) as usize;
+    let all = layout::groups_of(shape);
+    let mut number: u32 = 0;
+    let mut j: u32 = 0;
+    while j < all {
+        let start = layout::first_of(shape, j) as usize;
+        let end = start + size;
+        let one = mend_group(
+            shape,
+            j,
+            &mut word[start..end],
+            &mut marks[start..end],
+            powers,
+            logs,
+        );
+        number += one;
+        j += 1;
+    }
+    number
 }

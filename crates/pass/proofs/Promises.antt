@@ -24,12 +24,11 @@ use Rattle.code.specs.Promise.{Pass-mends}
 use Rattle.code.proofs.Questions.{ask-yes, or-ask-on}
 use Rattle.code.proofs.Answers.{answers-in}
 use Rattle.code.proofs.Codewords.{length-encoded, encoded-below}
-use Rattle.code.proofs.Passing.{pass-mends}
+use Rattle.code.proofs.Passing.{at-passed, at-marks, pass-mends}
 use Rattle.code.proofs.Lone.{mendable-one, mends-one, kept-mates}
 use Rattle.pass.specs.Pass.{reads, reads-below, pass-refusal}
 use Rattle.pass.specs.Promise.{Pass-counts, Pass-restores, Pass-keeps, Pass-accepts, Promises}
 use Rattle.pass.proofs.Reading.{readable}
-use Rattle.pass.proofs.Mending.{at-passed, at-marks}
 
 pub pass-counts : Pass-counts
 unfolding Pass-counts Answers mended

@@ -2,10 +2,8 @@
 ghost use mathlib.Core.Path.{_≡_};
 ghost use mathlib.Core.Bool.{false};
 ghost use lib.ListN.{length};
-ghost use Rattle.field.specs.Table.{Powers, Logs};
 ghost use Rattle.code.specs.Shape.{wired};
 ghost use Rattle.code.specs.Family.{single, code-refusal};
-ghost use Rattle.code.specs.Pass.{passed, marks-after, mended};
 ghost use Rattle.code.specs.Laws.{Mending};
 ghost use Rattle.pass.specs.Pass.{reads-below, pass-refusal, Pass-says};
 use code::Answer;
@@ -45,38 +43,6 @@ fn pass_refusal(refusal: u32, shape: Shape, word: &[u8], marks: &[u8]) -> u32
     questions::ask(c, pass_below(shape, word, marks), 6)
 }
 
-// Lends each group's part of the word and the marks to the repair of one group, and counts the groups repaired.
-pub fn mend_groups(
-    shape: Shape,
-    word: &mut [u8],
-    marks: &mut [u8],
-    powers: &[u8; 255],
-    logs: &[u8; 256],
-) -> u32
-    requires { ⌜ Powers 1 (now powers) × Logs (now logs) × Mending shape × (wired shape ≡ false) × (length (now word) ≡ shape .n) × (length (now marks) ≡ shape .n) ⌝ }
-    ensures { λ x. ⌜ (now (word .exit) ≡ passed shape (now (word .entry)) (now (marks .entry))) × (now (marks .exit) ≡ marks-after shape (now (marks .entry))) × (x ≡ mended shape (now (marks .entry))) ⌝ }
-{
-    let size = layout::size_of(shape) as usize;
-    let all = layout::groups_of(shape);
-    let mut number: u32 = 0;
-    let mut j: u32 = 0;
-    while j < all {
-        let start = layout::first_of(shape, j) as usize;
-        let end = start + size;
-        let one = mending::mend_group(
-            shape,
-            j,
-            &mut word[start..end],
-            &mut marks[start..end],
-            powers,
-            logs,
-        );
-        number += one;
-        j += 1;
-    }
-    number
-}
-
 // The local pass over any shape whose groups stand one after the other.
 pub fn local_pass_with(refusal: u32, shape: Shape, word: &mut [u8], marks: &mut [u8]) -> Answer
     requires { ⌜ (refusal ≡ 0 → Mending shape × (wired shape ≡ false)) ⌝ }
@@ -91,7 +57,7 @@ pub fn local_pass_with(refusal: u32, shape: Shape, word: &mut [u8], marks: &mut 
     }
     let powers = field::power_table();
     let logs = field::log_table();
-    let number = mend_groups(shape, word, marks, &powers, &logs);
+    let number = mending::mend_groups(shape, word, marks, &powers, &logs);
     Answer {
         refusal: 0,
         value: number,

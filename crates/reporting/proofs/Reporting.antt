@@ -22,11 +22,11 @@ use Rattle.code.proofs.Questions.{or-ask-passed}
 use Rattle.code.proofs.Accepted.{plain-of}
 use Rattle.code.proofs.Bounds.{n-most, k-most, work-most}
 use Rattle.decode.specs.Decode.{decode-refusal}
-use Rattle.decode.specs.Recording.{outcome-number, Numbers, Filled, Record-as, Record-says}
-use Rattle.decode.specs.declared.Outcome.{Outcome}
-use Rattle.decode.specs.declared.Outcome.the-variants.{Decided, Foreign, Undecided}
-use Rattle.decode.specs.declared.StripeRecord.{StripeRecord}
-use Rattle.decode.specs.declared.Recorded.{Recorded}
+use Rattle.recording.specs.Recording.{outcome-number, Numbers, Filled, Record-as, Record-says}
+use Rattle.recording.specs.declared.Outcome.{Outcome}
+use Rattle.recording.specs.declared.Outcome.the-variants.{Decided, Foreign, Undecided}
+use Rattle.recording.specs.declared.StripeRecord.{StripeRecord}
+use Rattle.recording.specs.declared.Recorded.{Recorded}
 use Rattle.decode.proofs.Refusals.{none}
 use Rattle.sheet.specs.Sheet.{code-in, symbols-in, marks-in}
 use Rattle.sheet.specs.Calls.{sheet-refusal, Read-says}

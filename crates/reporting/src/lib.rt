@@ -1,7 +1,7 @@
 // The report of a sheet: its stripe's code, its losses, and its message, or the refusal.
 ghost use mathlib.Core.Path.{_≡_};
 ghost use Prim.Native.Nat.{_≤_};
-ghost use lib.ListN.{length};
+ghost use lib.ListN.{length, take};
 ghost use Rattle.decode.specs.Decode.{decode-refusal};
 ghost use Rattle.code.specs.Family.{single, code-refusal};
 ghost use Rattle.reporting.specs.Report.{Report-says};
@@ -21,10 +21,10 @@ fn put_stripe(
     requires { ⌜ (decode-refusal (code-refusal code) (single code) (now word) (now marks) (length (now message)) (length (now work)) ≡ 0) × (1032 ≤ length (now text)) ⌝ }
     ensures { λ x. ⌜ Stripe-says code (now (word .entry)) (now (marks .entry)) (now (text .entry)) (now (text .exit)) x ⌝ }
 {
-    let drawn = decode::record(code, word, marks, message, work);
+    let drawn = recording::record(code, word, marks, message, work);
     let stripe = drawn.record;
     let outcome = stripe.outcome;
-    let number = decode::outcome_number(outcome);
+    let number = recording::outcome_number(outcome);
     text::put_lines(
         text,
         code,
@@ -79,4 +79,14 @@ pub fn report(input: &[u8], text: &mut [u8]) -> Answer
         refusal: 0,
         value: end as u32,
     }
+}
+
+// Writes the report of a sheet, of which at most the first 1,032 bytes are judged.
+pub fn report_front(input: &[u8], text: &mut [u8]) -> Answer
+    ensures { λ x. ⌜ Report-says (take 1032 (now (input .entry))) (now (text .entry)) (now (text .exit)) x ⌝ }
+{
+    if input.len() <= 1032 {
+        return report(input, text);
+    }
+    report(&input[..1032], text)
 }

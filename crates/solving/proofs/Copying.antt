@@ -1,25 +1,25 @@
 -- The copies that local repair works on: the marks, and the word with 0 in its lost places. Assumes nothing.
---   copied, front, room      the front of a buffer filled with a list's entries is the list, and the buffer is as long
+--   front                    the front of a buffer that a list was copied to is the list
 --   Kept-same                two words have the same kept symbols
 --   loaded-size, loaded      the front of a row that was loaded has n entries, and the word's kept symbols
 --   received-loaded, verdict-loaded    what asks for the kept symbols only is the same of both words
-use mathlib.Core.Path.{_≡_, refl, sym, ap, _∙_}
+use mathlib.Core.Path.{_≡_, sym, ap, _∙_}
 use mathlib.Core.Logic.{_≢_}
 use mathlib.Core.Bool.{true, _||_}
 use mathlib.Core.List.{List}
-use Prim.Native.Nat.{ℕ, _≤_, _<_}
+use Prim.Native.Nat.{ℕ, _+_, _≤_, _<_}
+use native.Mathlib.Nat.{zero-add}
 use native.Mathlib.Decide.{ℕ-discrete}
 use native.Mathlib.Omega.{arith}
 use lib.Dec.{T, eqb, ltb, lt→ltb}
-use lib.ListN.{length, take, length-take}
+use lib.ListN.{length, take}
 use lib.Seq.{length-take-le, getD-take}
 use borrow.Author.Tests.{eq-eqb}
 use Rattle.algebra.specs.Sequence.{at}
-use Rattle.algebra.specs.Writing.{Written}
+use Rattle.algebra.specs.Writing.{Written, Laid}
 use Rattle.algebra.proofs.Booleans.{so, yes-true, or-left, or-right}
-use Rattle.algebra.proofs.Tabulate.{tabulate-is}
 use Rattle.algebra.proofs.Every.{every-intro}
-use Rattle.algebra.proofs.Filling.{Filled}
+use Rattle.algebra.proofs.Splicing.{laid-front}
 use Rattle.field.specs.Field.{q}
 use Rattle.code.specs.Decoding.{lost, fits}
 use Rattle.code.specs.Erasure.{kept-below}
@@ -32,17 +32,8 @@ use Rattle.elimination.proofs.Equations.{kept-symbol, fits-to, fits-of}
 use Rattle.code.proofs.Verdicts.{verdict-same}
 
 -- the marks
-pub copied : (xs : List ℕ) (m : ℕ) (a z : List ℕ) → m ≡ length xs → length xs ≤ length a → Filled (at xs) m a z → take (length xs) z ≡ xs
-copied xs m a z p l F =
-    tabulate-is (at xs) 0 (length xs) (take (length xs) z) (length-take-le (length xs) z (omega (arith, F .size)))
-    (λ i h. getD-take (length xs) z i 0 h ∙ F .below i (omega arith))
-    ∙ sym (tabulate-is (at xs) 0 (length xs) xs refl (λ i h. refl))
-
-pub front : (n : ℕ) (xs z : List ℕ) → length xs ≡ n → take (length xs) z ≡ xs → take n z ≡ xs
-front n xs z l e = ap (λ m. take m z) (sym l) ∙ e
-
-pub room : (n : ℕ) (xs z : List ℕ) → length xs ≡ n → take (length xs) z ≡ xs → n ≤ length z
-room n xs z l e = omega (arith, length-take n z, ap (λ ys. length ys) (front n xs z l e))
+pub front : (n : ℕ) (xs a z : List ℕ) → length xs ≡ n → n ≤ length a → Laid (λ i. at xs (0 + i)) 0 n a z → take n z ≡ xs
+front n xs a z e l L = laid-front xs (λ i. at xs (0 + i)) n e (λ i h. ap (at xs) (zero-add i)) a z l L
 
 -- the word
 abbrev pub Kept-same : (n : ℕ) → (word other marks : List ℕ) → Type 0

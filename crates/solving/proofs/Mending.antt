@@ -27,7 +27,7 @@ use Rattle.code.specs.Promise.{Before-and-after}
 use Rattle.code.specs.Verdict.{Verdict, one, none, more}
 use Rattle.code.proofs.Keeping.{before-and-after}
 use Rattle.code.proofs.Verdicts.{verdict-same}
-use Rattle.pass.proofs.Mending.{passed-at, mark-at, at-passed, at-marks}
+use Rattle.code.proofs.Passing.{passed-at, mark-at, at-passed, at-marks}
 use Rattle.elimination.specs.Task.{Received}
 use Rattle.solving.specs.Step.{Tried}
 

@@ -1,7 +1,6 @@
 // Which messages fit the kept symbols: interpolation within the guarantee; beyond it local repair where that is enough, else elimination.
 ghost use mathlib.Core.Path.{_≡_};
-ghost use Prim.Native.Nat.{_≤_};
-ghost use lib.ListN.{length, take, replicate};
+ghost use lib.ListN.{length, replicate};
 ghost use Rattle.field.specs.Table.{Powers, Logs};
 ghost use Rattle.code.specs.Laws.{Decodable};
 ghost use Rattle.code.specs.Verdict.{Verdict};
@@ -21,25 +20,13 @@ fn solve_mended(
     requires { ⌜ Decodable shape × Received shape (now word) (now marks) × (length (now message) ≡ shape .k) × Powers 1 (now powers) × Logs (now logs) ⌝ }
     ensures { λ x. ⌜ Tried shape (now (word .entry)) (now (marks .entry)) (now (message .entry)) (now (message .exit)) x ⌝ }
 {
-    pass::mend_groups(shape, word, marks, powers, logs);
+    mending::mend_groups(shape, word, marks, powers, logs);
     let left = losses::count_lost(shape, marks);
     let sure = losses::guarantee_of(shape);
     if left > sure {
         return 11;
     }
     fitting::solve_within(shape, word, marks, message, powers, logs)
-}
-
-// Copies marks to the front of an array.
-fn copy(from: &[u8], to: &mut [u8; 255])
-    requires { ⌜ (length (now from) ≤ 255) × (length (now to) ≡ 255) ⌝ }
-    ensures { λ _. ⌜ take (length (now (from .entry))) (now (to .exit)) ≡ now (from .entry) ⌝ }
-{
-    let mut i: usize = 0;
-    while i < from.len() {
-        to[i] = from[i];
-        i += 1;
-    }
 }
 
 // Local repair of a copy of the kept symbols where that brings the losses within the guarantee, elimination else. All of work is left 0.
@@ -59,7 +46,7 @@ fn solve_broken(
     let mut mended = [0u8; 256];
     let mut left = [0u8; 255];
     interpolation::load(word, marks, n, &mut mended);
-    copy(marks, &mut left);
+    copying::copy(marks, 0, n, &mut left, 0);
     let verdict = solve_mended(
         shape,
         &mut mended[..n],

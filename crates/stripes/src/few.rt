@@ -1,11 +1,13 @@
 // Calls with one or two buffers: whether the answer and the buffers are the record's.
+use crate::code_of;
+use binding::packed;
 use vectors::Call;
 
 // The weights of a slot.
 pub fn run_weights(record: &[u8], call: Call) -> bool {
     let mut room = vectors::bytes_of(record, 0);
     let a = vectors::front(record, 0, &mut room);
-    let refusal = latsefidy::latsefidy_weights(call.field, call.r, call.n, call.k, call.slot, a);
+    let refusal = binding::weights_into(code_of(call), call.slot, a);
     vectors::agrees_one(record, vectors::pair(refusal, 0), a)
 }
 
@@ -15,9 +17,9 @@ pub fn run_one(record: &[u8], call: Call) -> bool {
     let a = vectors::front_read(record, 0, &room);
     let number = call.number;
     let answer = match number {
-        3 => latsefidy::latsefidy_repair(call.field, call.r, call.n, call.k, call.slot, a),
-        5 => latsefidy::latsefidy_view(call.field, call.r, call.n, call.k, call.slot, a),
-        _ => latsefidy::latsefidy_grade(call.field, call.r, call.n, call.k, a),
+        3 => packed(repair::repair(code_of(call), call.slot, a)),
+        5 => packed(view::view_first(code_of(call), call.slot, a)),
+        _ => packed(losses::grade(code_of(call), a)),
     };
     vectors::agrees_one(record, answer, a)
 }
@@ -28,7 +30,7 @@ pub fn run_pass(record: &[u8], call: Call) -> bool {
     let mut room_b = vectors::bytes_of(record, 1);
     let a = vectors::front(record, 0, &mut room_a);
     let b = vectors::front(record, 1, &mut room_b);
-    let answer = latsefidy::latsefidy_local_pass(call.field, call.r, call.n, call.k, a, b);
+    let answer = packed(pass::local_pass(code_of(call), a, b));
     vectors::agrees_two(record, answer, a, b)
 }
 
@@ -40,15 +42,9 @@ pub fn run_two(record: &[u8], call: Call) -> bool {
     let b = vectors::front(record, 1, &mut room_b);
     let number = call.number;
     let answer = match number {
-        1 => vectors::pair(
-            latsefidy::latsefidy_encode(call.field, call.r, call.n, call.k, a, b),
-            0,
-        ),
-        4 => vectors::pair(
-            latsefidy::latsefidy_rebuild(call.field, call.r, call.n, call.k, call.slot, a, b),
-            0,
-        ),
-        _ => latsefidy::latsefidy_report(a, b),
+        1 => vectors::pair(encode::encode(code_of(call), a, b), 0),
+        4 => vectors::pair(repair::rebuild(code_of(call), call.slot, a, b), 0),
+        _ => packed(reporting::report_front(a, b)),
     };
     vectors::agrees_two(record, answer, a, b)
 }

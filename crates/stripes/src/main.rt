@@ -1,8 +1,19 @@
 // Runs random calls with the answers of a separately written program (crate vectors), and counts the mismatches.
+use code::Code;
 use vectors::Call;
 
 mod few;
 mod many;
+
+// The code of a call.
+fn code_of(call: Call) -> Code {
+    Code {
+        field: call.field,
+        r: call.r,
+        n: call.n,
+        k: call.k,
+    }
+}
 
 // Makes a record's call: whether the answer and every buffer are the record's.
 fn run(record: &[u8], call: Call) -> bool {

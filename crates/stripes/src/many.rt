@@ -1,4 +1,5 @@
 // Calls with more than two buffers, which are a to e in the order of the C function.
+use crate::code_of;
 use vectors::Call;
 
 // Decodes a word with marks: whether the answer and the buffers are the record's.
@@ -7,7 +8,7 @@ fn run_decode(record: &[u8], call: Call, a: &[u8], b: &[u8]) -> bool {
     let mut room_d = vectors::bytes_of(record, 3);
     let c = vectors::front(record, 2, &mut room_c);
     let d = vectors::front(record, 3, &mut room_d);
-    let refusal = latsefidy::latsefidy_decode(call.field, call.r, call.n, call.k, a, b, c, d);
+    let refusal = decode::decode(code_of(call), a, b, c, d);
     vectors::agrees_four(record, vectors::pair(refusal, 0), a, b, c, d)
 }
 
@@ -19,7 +20,7 @@ fn run_record(record: &[u8], call: Call, a: &[u8], b: &[u8]) -> bool {
     let c = vectors::front(record, 2, &mut room_c);
     let d = vectors::front(record, 3, &mut room_d);
     let e = vectors::front_numbers(record, &mut room_e);
-    let refusal = latsefidy::latsefidy_record(call.field, call.r, call.n, call.k, a, b, c, d, e);
+    let refusal = record_binding::record_into(code_of(call), a, b, c, d, e);
     vectors::agrees_record(record, vectors::pair(refusal, 0), a, b, c, d, e)
 }
 
@@ -27,7 +28,7 @@ fn run_record(record: &[u8], call: Call, a: &[u8], b: &[u8]) -> bool {
 fn run_write(record: &[u8], call: Call, a: &[u8], b: &[u8]) -> bool {
     let mut room = vectors::bytes_of(record, 2);
     let c = vectors::front(record, 2, &mut room);
-    let refusal = latsefidy::latsefidy_write_sheet(call.field, call.r, call.n, call.k, a, b, c);
+    let refusal = sheet::write_sheet(code_of(call), a, b, c);
     vectors::agrees_three(record, vectors::pair(refusal, 0), a, b, c)
 }
 
@@ -55,6 +56,6 @@ pub fn run_sheet(record: &[u8]) -> bool {
     let b = vectors::front(record, 1, &mut room_b);
     let c = vectors::front(record, 2, &mut room_c);
     let d = vectors::front_numbers(record, &mut room_d);
-    let refusal = latsefidy::latsefidy_read_sheet(a, b, c, d);
+    let refusal = sheet_binding::read_into(a, b, c, d);
     vectors::agrees_sheet(record, vectors::pair(refusal, 0), a, b, c, d)
 }

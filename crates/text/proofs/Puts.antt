@@ -1,17 +1,19 @@
 -- Text written piece by piece, and the digits of numerals. Assumes nothing.
 --   puts-then, puts-as               one piece behind another; an equal piece
---   puts-copy, puts-byte             a copied piece; one byte
+--   puts-laid, puts-byte             a copied piece; one byte
 --   puts-no-symbols, puts-symbol, puts-symbols    the symbols of a message
 --   numeral-1, numeral-2, numeral-3  numerals of one, two and three digits
 use mathlib.Core.Path.{_≡_, refl, sym, ap, ap₂, _∙_, subst}
 use mathlib.Core.List.{List, [], _∷_, _++_, append-nil, append-assoc}
 use Prim.Native.Nat.{ℕ, zero, suc, _+_, _/_, _%_, _≤_, _<_}
-use native.Mathlib.Nat.{add-zero}
+use native.Mathlib.Nat.{add-zero, zero-add}
 use native.Mathlib.Numerals.{add-one}
 use native.Mathlib.Omega.{arith}
 use lib.ListN.{length, take, drop, set, length-append, take-append-drop}
-use lib.Seq.{take-at, drop-at, drop-drop, length-take-le, take-all, take-suc, set-split, append-snoc, paste}
+use lib.Seq.{take-at, drop-at, drop-drop, length-take-le, take-all, take-suc, set-split, append-snoc}
 use Rattle.algebra.specs.Sequence.{at}
+use Rattle.algebra.specs.Writing.{Laid}
+use Rattle.algebra.proofs.Splicing.{laid-splice}
 use borrow.Author.Tests.{lt-ltb, le-ltb}
 use Rattle.text.specs.Text.{numeral-from, numeral, spaced, all-spaced, written-at, Puts}
 
@@ -41,11 +43,16 @@ puts-then {xs} {ys} {t} {u} {v} {a} {m} {x} p q h =
 pub puts-as : {xs ys t z : List ℕ} {a x : ℕ} → xs ≡ ys → Puts xs t a z x → Puts ys t a z x
 puts-as {xs} {ys} {t} {z} {a} {x} e p = subst (λ bs. Puts bs t a z x) e p
 
-pub puts-copy : (bs t z : List ℕ) (a i : ℕ) → i ≤ length bs → length bs ≤ i → z ≡ paste t a bs i → Puts bs t a z (a + i)
+pub puts-laid : (bs t z : List ℕ) (a n : ℕ) → n ≡ length bs → a + n ≤ length t → Laid (λ i. at bs (0 + i)) a n t z → Puts bs t a z (a + n)
 unfolding written-at
-puts-copy bs t z a i h g e =
-    let n : i ≡ length bs = omega arith in
-    record { end = ap (λ n. a + n) n; text = e ∙ ap₂ (λ x n. take a t ++ x ++ drop (a + n) t) (take-all i bs g) n }
+puts-laid bs t z a n e l L =
+    record {
+      end = ap (λ n. a + n) e;
+      text =
+          laid-splice bs (λ i. at bs (0 + i)) n (sym e) (λ i h. ap (at bs) (zero-add i)) t z a l L
+          ∙ sym (append-assoc (take a t) bs (drop n (drop a t)))
+          ∙ ap (λ ys. (take a t ++ bs) ++ ys) (drop-drop n a t ∙ ap (λ n. drop (a + n) t) e);
+    }
 
 pub puts-byte : (t : List ℕ) (a b : ℕ) → a < length t → Puts (b ∷ []) t a (set t a b) (a + 1)
 unfolding written-at

@@ -10,12 +10,9 @@ pub fn put(text: &mut [u8], at: usize, bytes: &[u8]) -> usize
     requires { ⌜ at + length (now bytes) ≤ length (now text) ⌝ }
     ensures { λ x. ⌜ Puts (now (bytes .entry)) (now (text .entry)) at (now (text .exit)) x ⌝ }
 {
-    let mut i: usize = 0;
-    while i < bytes.len() {
-        text[at + i] = bytes[i];
-        i += 1;
-    }
-    at + i
+    let n = bytes.len();
+    copying::copy(bytes, 0, n, text, at);
+    at + n
 }
 
 // Puts one digit.

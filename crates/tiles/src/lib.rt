@@ -4,7 +4,6 @@ ghost use mathlib.Core.Logic.{_⊎_};
 ghost use Prim.Native.Nat.{ℕ, _+_, _*_, _≤_, _<_};
 ghost use lib.ListN.{length};
 ghost use Rattle.algebra.specs.Sequence.{at, tabulate};
-ghost use Rattle.algebra.specs.Writing.{Laid};
 ghost use Rattle.field.specs.Field.{xor-from, doubled};
 ghost use Rattle.tiles.specs.Columns.{Combined};
 ghost use Rattle.tiles.specs.Step.{sum, row-symbol, Planned, Reach, Extended, Tiled, Rebuilt};
@@ -55,18 +54,6 @@ fn add_row(
     }
 }
 
-// Writes n entries of source, from place start on, to target from place to on.
-pub fn copy(source: &[u8], start: usize, n: usize, target: &mut [u8], to: usize)
-    requires { ⌜ (start + n ≤ length (now source)) × (to + n ≤ length (now target)) ⌝ }
-    ensures { λ _. ⌜ Laid (λ i. at (now (source .entry)) (start + i)) to n (now (target .entry)) (now (target .exit)) ⌝ }
-{
-    let mut i: usize = 0;
-    while i < n {
-        target[to + i] = source[start + i];
-        i += 1;
-    }
-}
-
 // Writes to t, which is 0, the sums of the columns from c on of the strips in row m of the plan.
 fn set_row(t: &mut [u8], offsets: &[u16; 128], counts: &[u8; 8], m: usize, strips: &[u8], c: usize)
     requires { ⌜ (m < 8) × ((i : ℕ) → at (now t) i ≡ 0) × Reach (c + length (now t)) (length (now strips)) (now offsets) (now counts) ⌝ }
@@ -75,7 +62,7 @@ fn set_row(t: &mut [u8], offsets: &[u16; 128], counts: &[u8; 8], m: usize, strip
     if counts[m] == 0 {
         return;
     }
-    copy(strips, offsets[m * 16] as usize + c, t.len(), t, 0);
+    copying::copy(strips, offsets[m * 16] as usize + c, t.len(), t, 0);
     add_row(t, offsets, counts, m, 1, strips, c);
 }
 
@@ -92,7 +79,7 @@ fn narrow_tile(offsets: &[u16; 128], counts: &[u8; 8], strips: &[u8], output: &m
         add_row(&mut t, offsets, counts, m, 0, strips, c);
         m += 1;
     }
-    copy(&t, 0, 64, output, c);
+    copying::copy(&t, 0, 64, output, c);
 }
 
 // Writes the columns c to c + 127.
@@ -108,7 +95,7 @@ fn wide_tile(offsets: &[u16; 128], counts: &[u8; 8], strips: &[u8], output: &mut
         add_row(&mut t, offsets, counts, m, 0, strips, c);
         m += 1;
     }
-    copy(&t, 0, 128, output, c);
+    copying::copy(&t, 0, 128, output, c);
 }
 
 // The lesser of two.

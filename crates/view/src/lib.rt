@@ -3,8 +3,10 @@ ghost use mathlib.Core.Path.{_≡_};
 ghost use mathlib.Core.Bool.{false};
 ghost use Rattle.code.specs.Shape.{wired};
 ghost use Rattle.code.specs.Family.{single, code-refusal};
+ghost use Rattle.code.specs.Answer.{Answers};
 ghost use Rattle.code.specs.Laws.{Mending};
-ghost use Rattle.view.specs.View.{view-refusal, View-says};
+ghost use Rattle.view.specs.View.{view-refusal, first-slot, View-says};
+use code::Answer;
 use code::Code;
 use code::Shape;
 
@@ -43,4 +45,17 @@ pub fn group_view(code: Code, slot: u32, word: &[u8]) -> &[u8]
     ensures { λ x. ⌜ View-says (code-refusal code) (single code) slot (word .entry) x ⌝ }
 {
     group_view_with(layout::code_refusal(code), layout::single(code), slot, word)
+}
+
+// The first slot of a slot's group in a word.
+pub fn view_first(code: Code, slot: u32, word: &[u8]) -> Answer
+    ensures { λ x. ⌜ Answers (view-refusal (code-refusal code) (single code) slot (now (word .entry))) (first-slot code slot) x ⌝ }
+{
+    let refusal = group_view_refusal(code, slot, word);
+    if refusal != 0 {
+        return Answer { refusal, value: 0 };
+    }
+    let shape = layout::single(code);
+    let value = layout::first_of(shape, layout::group_of(shape, slot));
+    Answer { refusal: 0, value }
 }

@@ -1,5 +1,5 @@
 -- `put_code` meets its contract. Assumes nothing.
-use Rattle.binding.specs.Record.{four}
+use Rattle.binding.specs.Pack.{four}
 use borrow.Author.Needs.{needs}
 use Rattle.binding.proofs.put_code.Statement.{statement}
 use Rattle.binding.proofs.put_code.Tie as tie

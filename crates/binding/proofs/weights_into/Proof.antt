@@ -2,6 +2,11 @@ use borrow.Author.Needs.{needs}
 use mathlib.Core.Path.{_≡_, sym, ap, subst, _∙_}
 use lib.Dec.{eqb}
 use lib.ListN.{length}
+use Prim.Native.Nat.{_+_}
+use native.Mathlib.Nat.{zero-add}
+use native.Mathlib.Omega.{arith}
+use Rattle.algebra.specs.Sequence.{at}
+use Rattle.algebra.proofs.Splicing.{laid-all}
 use Rattle.code.specs.Question.{ask, or-ask}
 use Rattle.code.specs.Family.{single}
 use Rattle.code.specs.Laws.{Mending}
@@ -42,16 +47,16 @@ returns c =
     let a = c .before .before .before .before .before .before .args in
     weights-no (a .code) (a .slot) (a .weights .now) (c .before .weights-with .result) (said (c .before)) (c .if1 .taken)
 
-slice-aggregate-copy-bytes : tie.Need-slice-aggregate-copy-bytes
-slice-aggregate-copy-bytes c = search needs
+slice-aggregate-copy : tie.Need-slice-aggregate-copy
+slice-aggregate-copy c = search needs
 
-copy-bytes-requires : tie.Need-copy-bytes-requires
-copy-bytes-requires c κs =
+copy-requires : tie.Need-copy-requires
+copy-requires c κs =
     let w = c .before .before .before .before in
     let a = w .before .before .before .before .before .args in
     let y = w .weights-with .result in
-    room (a .code) (a .slot) (a .weights .now) y (said w) (c .before .before .before .if1 .left)
-    ∙ sym (length-weights (before (a .code) (a .slot) (a .weights .now) y) (a .code) (a .slot) y (said w))
+    let n = before (a .code) (a .slot) (a .weights .now) y in
+    (omega (arith, length-weights n (a .code) (a .slot) y (said w)), omega (arith, room (a .code) (a .slot) (a .weights .now) y (said w) (c .before .before .before .if1 .left)))
 
 same-length : tie.Need-same-length
 same-length c = search needs
@@ -60,8 +65,13 @@ returns-2 : tie.Need-returns-2
 returns-2 c =
     let w = c .before .before .before .before .before .before .before in
     let a = w .before .before .before .before .before .args in
-    let k = c .before .before .copy-bytes in
-    weights-yes (a .code) (a .slot) (a .weights .now) (w .weights-with .result) (k .last .1 .0) (said w) (c .before .before .before .before .before .before .if1 .left) (k .ensures)
+    let k = c .before .before .copy in
+    let y = w .weights-with .result in
+    let n = before (a .code) (a .slot) (a .weights .now) y in
+    let e = c .before .before .before .before .before .before .if1 .left in
+    weights-yes (a .code) (a .slot) (a .weights .now) y (k .last .1 .1 .1 .0) (said w) e
+    (laid-all (y .weights) (λ i. at (y .weights) (0 + i)) 16 (length-weights n (a .code) (a .slot) y (said w)) (λ i h. ap (at (y .weights)) (zero-add i))
+    (a .weights .now) (k .last .1 .1 .1 .0) (room (a .code) (a .slot) (a .weights .now) y (said w) e) (k .ensures))
 
 pub weights-into-spec : {M : Type 1} → statement M
 weights-into-spec =
@@ -72,7 +82,7 @@ weights-into-spec =
     single-requires
     weights-with-requires
     returns
-    slice-aggregate-copy-bytes
-    copy-bytes-requires
+    slice-aggregate-copy
+    copy-requires
     same-length
     returns-2)

@@ -6,7 +6,7 @@ use borrow.Author.Tests.{not-true, not-false}
 use Rattle.code.specs.Shape.{groups, first}
 use Rattle.code.proofs.Bounds.{n-most}
 use Rattle.code.proofs.Parts.{first-none, group-room}
-use Rattle.pass.proofs.Lending.{lent-part, length-lent}
+use Rattle.mending.proofs.Lending.{lent-part, length-lent}
 use Rattle.pass.proofs.Reading.{readable, reads-not, readable-more, reads-all}
 use Rattle.pass.proofs.pass_below.Statement.{statement}
 use Rattle.pass.proofs.pass_below.Tie as tie

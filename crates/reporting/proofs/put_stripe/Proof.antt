@@ -4,7 +4,7 @@ use lib.ListN.{length}
 use Rattle.code.specs.Family.{single, code-refusal}
 use Rattle.code.proofs.Accepted.{decodable-of}
 use Rattle.code.proofs.Bounds.{k-most}
-use Rattle.decode.specs.Recording.{outcome-number}
+use Rattle.recording.specs.Recording.{outcome-number}
 use Rattle.decode.proofs.Refusals.{handed}
 use Rattle.text.proofs.Puts.{puts-as}
 use Rattle.reporting.proofs.Reporting.{accepted-by, drawn, outcome-most, small-record, record-lines}

@@ -1,0 +1,27 @@
+-- What the record says. Assumes nothing.
+--   record-refused, record-filled     on a refusal, and where none is
+use mathlib.Core.Path.{_≡_, refl}
+use mathlib.Core.Logic.{_≢_}
+use mathlib.Core.List.{List}
+use Prim.Native.Nat.{ℕ, zero, suc}
+use lib.ListN.{length}
+use Rattle.code.specs.declared.Code.{Code}
+use Rattle.code.specs.declared.Shape.{Shape}
+use Rattle.decode.specs.Decode.{decode-refusal}
+use Rattle.recording.specs.Recording.{blank, Filled, Record-as, Record-says}
+use Rattle.recording.specs.declared.Recorded.{Recorded}
+
+module _ (n : ℕ) (s : Shape) (ws ms a : List ℕ) (c : Code) where
+  pub record-refused : (w : List ℕ) {x : Recorded} → x .refusal ≡ decode-refusal n s ws ms (length a) (length w) → x .refusal ≢ 0 → x .record ≡ blank
+      → Record-says n c s ws ms x a a w w
+  unfolding Record-says Record-as
+  record-refused w {x} e h b = go (decode-refusal n s ws ms (length a) (length w)) e
+    where
+      go : (y : ℕ) → x .refusal ≡ y → Record-as y c s ws ms x a a w w
+      go zero p = absurd (h p)
+      go (suc y) p = record { refusal = p; record-blank = b; message = refl; work = refl }
+
+  pub record-filled : (z w v : List ℕ) {x : Recorded} → decode-refusal n s ws ms (length a) (length w) ≡ 0 → Filled c s ws ms x a z w v
+      → Record-says n c s ws ms x a z w v
+  unfolding Record-says Record-as
+  record-filled z w v e F = rw e F

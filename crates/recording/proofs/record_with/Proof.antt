@@ -1,0 +1,92 @@
+use borrow.Author.Needs.{needs}
+use mathlib.Core.Path.{refl, sym, _∙_}
+use lib.ListN.{length}
+use Rattle.decode.specs.Step.{Handed}
+use Rattle.decode.proofs.Refusals.{handed}
+use Rattle.decode.proofs.Replies.{is-verdict}
+use Rattle.recording.proofs.Records.{record-refused, record-filled}
+use Rattle.recording.proofs.record_with.Statement.{statement}
+use Rattle.recording.proofs.record_with.Tie as tie
+
+-- what no question refuses
+given : (s : tie.Else1) → let a = s .before .before .before .before .before .before .args in Handed (a .shape) (a .word .now) (a .marks .now) (length (a .message .now)) (length (a .work .now))
+given s =
+    let a = s .before .before .before .before .before .before .args in
+    handed (a .refusal) (a .shape) (a .word .now) (a .marks .now) (length (a .message .now)) (length (a .work .now)) (s .before .before .before .before .before .before .pre)
+    (sym (s .before .decode-refusal .ensures) ∙ s .if1 .left)
+
+decode-refusal-requires : tie.Need-decode-refusal-requires
+decode-refusal-requires c κs = search needs
+
+blank-record-requires : tie.Need-blank-record-requires
+blank-record-requires c κs = search needs
+
+returns : tie.Need-returns
+returns c =
+    let a = c .before .before .before .before .before .before .before .args in
+    record-refused (a .refusal) (a .shape) (a .word .now) (a .marks .now) (a .message .now) (a .code) (a .work .now) (c .before .before .decode-refusal .ensures)
+    (c .before .if1 .taken) (c .blank-record .ensures)
+
+settle-requires : tie.Need-settle-requires
+settle-requires c κs = given (c .before .before)
+
+count-lost-requires : tie.Need-count-lost-requires
+count-lost-requires c κs = let H = given (c .before .before .before .before .before .before .before) in (H .shape .plain .family .placed, H .marks-size)
+
+guarantee-of-requires : tie.Need-guarantee-of-requires
+guarantee-of-requires c κs = let L = given (c .before .before .before .before .before .before .before .before) .shape .plain in (L .family, L .second-none)
+
+grade-of-requires : tie.Need-grade-of-requires
+grade-of-requires c κs = let H = given (c .before .before .before .before .before .before .before .before .before) in (H .shape .plain, H .marks-size)
+
+first-group-requires : tie.Need-first-group-requires
+first-group-requires c κs = let H = given (c .before .before .before .before .before .before .before .before .before .before) in (H .shape .plain .family .placed, H .shape .plain .whole-groups, H .marks-size)
+
+outcome-of-requires : tie.Need-outcome-of-requires
+outcome-of-requires c κs =
+    let a = c .before .before .before .before .before .before .before .before .before .before .before .before .before .before .before .before .before .args in
+    let t = c .before .before .before .before .before .before .before .before .settle in
+    is-verdict (a .shape) (a .word .now) (a .marks .now) (a .message .now) (t .last .1 .1 .1 .0) (t .result) (t .ensures .0)
+
+same-length : tie.Need-same-length
+same-length c = search needs
+
+same-length-2 : tie.Need-same-length-2
+same-length-2 c = search needs
+
+returns-2 : tie.Need-returns-2
+returns-2 c =
+    let s = c .before .before .before .before .before .before .before .before .before .before .before .before in
+    let a = s .before .before .before .before .before .before .args in
+    let t = c .before .before .before .before .before .before .before .before .before .settle in
+    record-filled (a .refusal) (a .shape) (a .word .now) (a .marks .now) (a .message .now) (a .code) (t .last .1 .1 .1 .0) (a .work .now)
+    (t .last .1 .1 .1 .1 .0) (sym (s .before .decode-refusal .ensures) ∙ s .if1 .left)
+    (record {
+      refusal = refl;
+      numbers = record {
+        code = refl;
+        lost = c .before .before .before .before .count-lost .ensures;
+        guarantee-is = c .before .before .before .guarantee-of .ensures;
+        grade-is = c .before .before .grade-of .ensures;
+        first = c .before .first-group .ensures;
+      };
+      verdict = rw (c .outcome-of .ensures) (t .ensures .0);
+      work = t .ensures .1;
+    })
+
+pub record-with-spec : {M : Type 1} → statement M
+record-with-spec =
+    tie.close
+    (tie.spec
+    decode-refusal-requires
+    blank-record-requires
+    returns
+    settle-requires
+    count-lost-requires
+    guarantee-of-requires
+    grade-of-requires
+    first-group-requires
+    outcome-of-requires
+    same-length
+    same-length-2
+    returns-2)
