@@ -38,7 +38,7 @@ fn plain_columns(
     let mut i: usize = 0;
     while i < l {
         let column = column_of(strips, r, l, i);
-        output[i] = field::dot(field, weights, &column, r, powers, logs);
+        output[i] = arithmetic::dot(field, weights, &column, r, powers, logs);
         i += 1;
     }
 }

@@ -27,9 +27,9 @@ fn next_basis(
 {
     let field = shape.field;
     let r = shape.r;
-    let next = field::mul(field, x, value, powers, logs);
+    let next = arithmetic::mul(field, x, value, powers, logs);
     if (m + 1) % r == 0 {
-        return field::mul(field, jump, next, powers, logs);
+        return arithmetic::mul(field, jump, next, powers, logs);
     }
     next
 }
@@ -41,7 +41,7 @@ fn fill_row(shape: Shape, slot: u32, row: &mut [u8], powers: &[u8; 255], logs: &
 {
     let k = shape.k;
     let x = layout::point_of(shape, slot);
-    let jump = field::power_of(shape.field, x, shape.tolerance, powers, logs);
+    let jump = arithmetic::power_of(shape.field, x, shape.tolerance, powers, logs);
     let mut value: u8 = 1;
     let mut m: u32 = 0;
     while m < k {

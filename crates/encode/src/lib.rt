@@ -24,7 +24,7 @@ fn encode_refusal(refusal: u32, shape: Shape, message: &[u8], length: usize) -> 
     }
     questions::ask(
         b,
-        questions::all_below(message, field::order(shape.field)),
+        questions::all_below(message, tables::order(shape.field)),
         6,
     )
 }
@@ -80,8 +80,8 @@ pub fn encode_with(refusal: u32, shape: Shape, message: &[u8], codeword: &mut [u
     if refused != 0 {
         return refused;
     }
-    let powers = field::power_table();
-    let logs = field::log_table();
+    let powers = tables::power_table();
+    let logs = tables::log_table();
     write_codeword(shape, message, codeword, &powers, &logs);
     0
 }

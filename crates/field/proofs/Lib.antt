@@ -5,8 +5,5 @@ pub mod Laws
 pub mod Generator
 pub mod Elem
 pub mod Elements
-pub mod Tables
-pub mod Doubling
-pub mod Bits
 pub mod Operations
 pub mod Products

@@ -34,8 +34,8 @@ fn add_scaled(field: u32, target: &mut [u8; 256], source: &[u8; 256], from: usiz
 {
     let mut p = from;
     while p < to {
-        let s = field::product(field, c, source[p]);
-        let v = field::add(field, target[p], s);
+        let s = arithmetic::product(field, c, source[p]);
+        let v = arithmetic::add(field, target[p], s);
         target[p] = v;
         p += 1;
     }
@@ -55,8 +55,8 @@ fn mul_differences(
 {
     let mut p = from;
     while p < to {
-        let d = field::sub(field, points[p], y);
-        let v = field::product(field, d, values[p]);
+        let d = arithmetic::sub(field, points[p], y);
+        let v = arithmetic::product(field, d, values[p]);
         values[p] = v;
         p += 1;
     }
@@ -82,8 +82,8 @@ fn combine(field: u32, shifted: &[u8; 257], target: &mut [u8; 256], to: usize, k
 {
     let mut p: usize = 0;
     while p < to {
-        let s = field::product(field, k, shifted[p + 1]);
-        let v = field::add(field, shifted[p], s);
+        let s = arithmetic::product(field, k, shifted[p + 1]);
+        let v = arithmetic::add(field, shifted[p], s);
         target[p] = v;
         p += 1;
     }
@@ -96,7 +96,7 @@ fn mul_linear(field: u32, basis: &mut [u8; 256], to: usize, y: u8)
 {
     let mut shifted = [0u8; 257];
     shift(basis, &mut shifted, to);
-    let k = field::sub(field, 0, y);
+    let k = arithmetic::sub(field, 0, y);
     combine(field, &shifted, basis, to, k);
 }
 
@@ -147,9 +147,9 @@ fn advance(
         return c;
     }
     let y = points[i];
-    let v = field::inverse_of(field, values[i], powers, logs);
-    let k = field::product(field, rests[i], v);
-    let h = field::sub(field, 0, k);
+    let v = arithmetic::inverse_of(field, values[i], powers, logs);
+    let k = arithmetic::product(field, rests[i], v);
+    let h = arithmetic::sub(field, 0, k);
     let m = block_end(c + 1);
     let start = block_start(i);
     let end = block_end(n);

@@ -20,8 +20,8 @@ fn times_16(x: u8) -> u8
 fn times_root(x: u8) -> u8
     ensures { λ y. ⌜ y ≡ times-from 8 214 x ⌝ }
 {
-    let six = field::double(field::double(x) ^ x);
-    times_16(field::double(six) ^ x) ^ six
+    let six = arithmetic::double(arithmetic::double(x) ^ x);
+    times_16(arithmetic::double(six) ^ x) ^ six
 }
 
 // Lays r strips of l symbols out at every 64th place.

@@ -42,7 +42,7 @@ pub fn code_refusal(code: Code) -> u32
     if r > 16 {
         return 2;
     }
-    let most = field::order(field) - 1;
+    let most = tables::order(field) - 1;
     if most % (r + 1) != 0 {
         return 2;
     }
@@ -158,7 +158,7 @@ pub fn width_of(shape: Shape) -> u32
     requires { ⌜ Placed shape ⌝ }
     ensures { λ x. ⌜ x ≡ (q (shape .field) - 1) / size shape ⌝ }
 {
-    (field::order(shape.field) - 1) / size_of(shape)
+    (tables::order(shape.field) - 1) / size_of(shape)
 }
 
 // The evaluation point of a member of a group, by that width: for loops, which work it out once.
@@ -166,7 +166,7 @@ pub fn member_point(field: u32, width: u32, group: u32, member: u32) -> u8
     requires { ⌜ group + member * width < q field - 1 ⌝ }
     ensures { λ x. ⌜ x ≡ power field γ (group + member * width) ⌝ }
 {
-    field::generator_power(field, group + member * width)
+    tables::generator_power(field, group + member * width)
 }
 
 // The evaluation point of a member of a group.

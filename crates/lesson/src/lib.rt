@@ -22,7 +22,7 @@ fn put_powers(text: &mut [u8], at: usize) -> usize {
     let mut next = at;
     let mut e: u32 = 0;
     while e < 12 {
-        next = put_spaced(text, next, wide(field::generator_power(0, e)));
+        next = put_spaced(text, next, wide(tables::generator_power(0, e)));
         e += 1;
     }
     next

@@ -25,8 +25,8 @@ fn add_row(field: u32, work: &mut [u8], dst: usize, src: usize, len: usize, c: u
 {
     let mut m: usize = 0;
     while m < len {
-        let v = field::product(field, c, work[src + m]);
-        work[dst + m] = field::add(field, work[dst + m], v);
+        let v = arithmetic::product(field, c, work[src + m]);
+        work[dst + m] = arithmetic::add(field, work[dst + m], v);
         m += 1;
     }
 }
@@ -45,8 +45,8 @@ fn turn(field: u32, h: u8, powers: &[u8; 255], logs: &[u8; 256]) -> u8
     requires { ⌜ Powers 1 (now powers) × Logs (now logs) ⌝ }
     ensures { λ r. ⌜ r ≡ minus field 0 (inverse field h) ⌝ }
 {
-    let i = field::inverse_of(field, h, powers, logs);
-    field::sub(field, 0, i)
+    let i = arithmetic::inverse_of(field, h, powers, logs);
+    arithmetic::sub(field, 0, i)
 }
 
 // Takes the newcomer through column j: true where it became row j.
@@ -108,7 +108,7 @@ pub fn insert(
     requires { ⌜ Echelon field k (now work) × ((m : ℕ) → m < k → entry k (now work) k m < q field) × (v < q field) × Powers 1 (now powers) × Logs (now logs) ⌝ }
     ensures { λ r. ⌜ Inserted field k v (now (work .entry)) (now (work .exit)) r ⌝ }
 {
-    let c = field::sub(field, 0, v);
+    let c = arithmetic::sub(field, 0, v);
     work[k * (k + 1) + k] = c;
     place(field, work, k, powers, logs)
 }
@@ -127,8 +127,8 @@ fn value(
     ensures { λ r. ⌜ r ≡ residue field k (now (work .entry)) i (now (ys .entry)) ⌝ }
 {
     let base = i * (k + 1);
-    let sum = field::dot(field, ys, &work[base..], k, powers, logs);
-    field::add(field, sum, work[base + k])
+    let sum = arithmetic::dot(field, ys, &work[base..], k, powers, logs);
+    arithmetic::add(field, sum, work[base + k])
 }
 
 // Back substitution: the unknowns from the last to the first.

@@ -40,7 +40,7 @@ fn local_polynomial(
     while m > 0 {
         m -= 1;
         i = place_before(i, r);
-        local[i] = field::mul_add(field, message[m], y, local[i], powers, logs);
+        local[i] = arithmetic::mul_add(field, message[m], y, local[i], powers, logs);
     }
     local
 }
@@ -75,7 +75,7 @@ fn horner_step(
 {
     let mut i: usize = 0;
     while i < size {
-        values[i] = field::mul_add(field, a, points[i], values[i], powers, logs);
+        values[i] = arithmetic::mul_add(field, a, points[i], values[i], powers, logs);
         i += 1;
     }
 }
@@ -125,7 +125,7 @@ pub fn group_symbols(
     let r = shape.r as usize;
     let size = layout::size_of(shape);
     let points = points_of(shape, group);
-    let y = field::power_of(field, points[0], size, powers, logs);
+    let y = arithmetic::power_of(field, points[0], size, powers, logs);
     let local = local_polynomial(shape, message, y, powers, logs);
     values_at(field, &local, r, &points, size as usize, powers, logs)
 }

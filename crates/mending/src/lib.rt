@@ -36,7 +36,7 @@ pub fn group_below(shape: Shape, part: &[u8], marks: &[u8]) -> bool
     if questions::losses_in(marks) != 1 {
         return true;
     }
-    questions::symbols_below(part, marks, field::order(shape.field))
+    questions::symbols_below(part, marks, tables::order(shape.field))
 }
 
 // The symbols of a group's part at the mates of a member, with zeros after them.
@@ -75,7 +75,7 @@ pub fn mend_group(
     let slot = layout::slot_at(shape, group, member);
     let weights = weights::weights_of(shape, slot, powers, logs);
     let mates = mates_of(shape, part, member);
-    part[i] = field::dot(
+    part[i] = arithmetic::dot(
         shape.field,
         &weights,
         &mates,

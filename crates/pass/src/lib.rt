@@ -55,8 +55,8 @@ pub fn local_pass_with(refusal: u32, shape: Shape, word: &mut [u8], marks: &mut 
             value: 0,
         };
     }
-    let powers = field::power_table();
-    let logs = field::log_table();
+    let powers = tables::power_table();
+    let logs = tables::log_table();
     let number = mending::mend_groups(shape, word, marks, &powers, &logs);
     Answer {
         refusal: 0,

@@ -71,5 +71,5 @@ pub fn kept_below(shape: Shape, word: &[u8], marks: &[u8]) -> bool
     requires { ⌜ (length (now word) ≡ shape .n) × (length (now marks) ≡ shape .n) ⌝ }
     ensures { λ x. ⌜ x ≡ kept-below shape (now (word .entry)) (now (marks .entry)) ⌝ }
 {
-    symbols_below(word, marks, field::order(shape.field))
+    symbols_below(word, marks, tables::order(shape.field))
 }

@@ -24,7 +24,7 @@ fn mates_refusal(refusal: u32, shape: Shape, slot: u32, strips: &[u8], l: usize)
     }
     questions::ask(
         d,
-        questions::all_below(strips, field::order(shape.field)),
+        questions::all_below(strips, tables::order(shape.field)),
         6,
     )
 }
@@ -41,10 +41,10 @@ pub fn repair_with(refusal: u32, shape: Shape, slot: u32, mates: &[u8]) -> Answe
             value: 0,
         };
     }
-    let powers = field::power_table();
-    let logs = field::log_table();
+    let powers = tables::power_table();
+    let logs = tables::log_table();
     let weights = weights::weights_of(shape, slot, &powers, &logs);
-    let symbol = field::dot(
+    let symbol = arithmetic::dot(
         shape.field,
         &weights,
         mates,
@@ -79,8 +79,8 @@ pub fn rebuild_with(refusal: u32, shape: Shape, slot: u32, strips: &[u8], output
     if refused != 0 {
         return refused;
     }
-    let powers = field::power_table();
-    let logs = field::log_table();
+    let powers = tables::power_table();
+    let logs = tables::log_table();
     let weights = weights::weights_of(shape, slot, &powers, &logs);
     columns::rebuild_columns(
         shape.field,

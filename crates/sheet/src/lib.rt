@@ -75,7 +75,7 @@ fn body_refusal(code: Code, sheet: &[u8]) -> u32
         return 13;
     }
     let a = questions::ask(0, slots_fit(sheet, n), 14);
-    let b = questions::ask(a, symbols_fit(sheet, n, field::order(code.field)), 6);
+    let b = questions::ask(a, symbols_fit(sheet, n, tables::order(code.field)), 6);
     let last = words::word_at(sheet, n as usize + 1);
     questions::ask(b, last == words::end_word(n), 15)
 }

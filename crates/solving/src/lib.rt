@@ -67,8 +67,8 @@ pub fn solve(shape: Shape, word: &[u8], marks: &[u8], message: &mut [u8], work: 
     requires { ⌜ Decodable shape × Task shape (now word) (now marks) (now message) (now work) ⌝ }
     ensures { λ x. ⌜ Verdict shape (now (word .entry)) (now (marks .entry)) (now (message .entry)) (now (message .exit)) x × (now (work .exit) ≡ replicate (length (now (work .entry))) 0) ⌝ }
 {
-    let powers = field::power_table();
-    let logs = field::log_table();
+    let powers = tables::power_table();
+    let logs = tables::log_table();
     let lost = losses::count_lost(shape, marks);
     let sure = losses::guarantee_of(shape);
     if lost > sure {

@@ -14,7 +14,7 @@ fn double(t: &mut [u8])
 {
     let mut i: usize = 0;
     while i < t.len() {
-        t[i] = field::double(t[i]);
+        t[i] = arithmetic::double(t[i]);
         i += 1;
     }
 }

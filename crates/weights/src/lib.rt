@@ -26,14 +26,14 @@ pub fn weights_of(shape: Shape, slot: u32, powers: &[u8; 255], logs: &[u8; 256])
     let member = layout::member_of(shape, slot);
     let width = layout::width_of(shape);
     let x = layout::member_point(field, width, group, member);
-    let inverse = field::inverse_of(field, x, powers, logs);
+    let inverse = arithmetic::inverse_of(field, x, powers, logs);
     let mut weights = [0u8; 16];
     let mut i: u32 = 0;
     while i < r {
         let mate = layout::mate_member(member, i);
         let y = layout::member_point(field, width, group, mate);
-        let t = field::mul(field, y, inverse, powers, logs);
-        let w = field::sub(field, 0, t);
+        let t = arithmetic::mul(field, y, inverse, powers, logs);
+        let w = arithmetic::sub(field, 0, t);
         weights[i as usize] = w;
         i += 1;
     }
@@ -52,8 +52,8 @@ pub fn weights_with(refusal: u32, shape: Shape, slot: u32) -> RepairWeights
             weights: [0u8; 16],
         };
     }
-    let powers = field::power_table();
-    let logs = field::log_table();
+    let powers = tables::power_table();
+    let logs = tables::log_table();
     let weights = weights_of(shape, slot, &powers, &logs);
     RepairWeights {
         refusal: 0,

@@ -7,7 +7,7 @@ use Rattle.linear.proofs.insert.Statement.{statement}
 use Rattle.linear.proofs.insert.Tie as tie
 use Rattle.linear.proofs.insert.Reads as reads
 use Rattle.linear.proofs.insert.Lts as lts
-use Rattle.field.proofs.sub.Reads as sub-reads
+use Rattle.arithmetic.proofs.sub.Reads as sub-reads
 use Rattle.linear.proofs.place.Reads as place-reads
 
 sub-requires : tie.Need-sub-requires

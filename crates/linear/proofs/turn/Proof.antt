@@ -5,8 +5,8 @@ use Rattle.linear.proofs.turn.Statement.{statement}
 use Rattle.linear.proofs.turn.Tie as tie
 use Rattle.linear.proofs.turn.Reads as reads
 use Rattle.linear.proofs.turn.Lts as lts
-use Rattle.field.proofs.inverse_of.Reads as inverse-of-reads
-use Rattle.field.proofs.sub.Reads as sub-reads
+use Rattle.arithmetic.proofs.inverse_of.Reads as inverse-of-reads
+use Rattle.arithmetic.proofs.sub.Reads as sub-reads
 
 inverse-of-requires : tie.Need-inverse-of-requires
 inverse-of-requires c κs = search needs

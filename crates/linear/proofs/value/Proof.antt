@@ -10,8 +10,8 @@ use Rattle.linear.proofs.value.Statement.{statement}
 use Rattle.linear.proofs.value.Tie as tie
 use Rattle.linear.proofs.value.Reads as reads
 use Rattle.linear.proofs.value.Lts as lts
-use Rattle.field.proofs.add.Reads as add-reads
-use Rattle.field.proofs.dot.Reads as dot-reads
+use Rattle.arithmetic.proofs.add.Reads as add-reads
+use Rattle.arithmetic.proofs.dot.Reads as dot-reads
 
 add-base : tie.Need-add-base
 add-base c = search needs

@@ -1,0 +1,2 @@
+mod Doubling
+mod Bits
