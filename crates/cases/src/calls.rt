@@ -93,7 +93,7 @@ fn work_room() -> [u8; 61455] {
 
 // The line of a decode, with the grade of its marks.
 fn put_decoded(code: Code, marks: &[u8], refusal: u32, message: &[u8]) {
-    let grade = losses::grade(code, marks);
+    let grade = grading::grade(code, marks);
     head(b"decode ", code);
     show::put(refusal);
     show::put(grade.refusal);

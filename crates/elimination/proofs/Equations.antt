@@ -37,8 +37,9 @@ use Rattle.linear.specs.System.{Vector, entry, coefs, residue, Solved, Echelon,
 use Rattle.linear.proofs.Elements.{echelon-kept, residue-kept}
 use Rattle.linear.proofs.Substitution.{cleared-echelon, cleared-solved}
 use Rattle.elimination.specs.Task.{work-size}
-use Rattle.elimination.specs.Step.{Generator-row, Agrees-at, Agrees-below, Taken, Gathered}
-use Rattle.elimination.proofs.Generators.{symbol-is}
+use Rattle.elimination.specs.Step.{Agrees-at, Agrees-below, Taken, Gathered}
+use Rattle.generator_matrix.specs.Row.{Generator-row}
+use Rattle.generator_matrix.proofs.Generators.{symbol-is}
 
 -- a kept symbol is below q
 pub kept-symbol : (s : Shape) (ws ms : List ℕ) → kept-below s ws ms ≡ true → (p : ℕ) → p < s .n → at ms p ≢ 1 → at ws p < q (s .field)

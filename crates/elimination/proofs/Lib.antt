@@ -1,3 +1,2 @@
-pub mod Generators
 pub mod Equations
 pub mod Verdicts

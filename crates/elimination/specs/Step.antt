@@ -1,5 +1,4 @@
--- The steps of elimination: the generator row of a slot with the message is the symbol there. Assumes nothing: these are definitions.
---   Generator-row s p a z     == the buffer a has become z: slot p's row of the generator matrix in front
+-- The steps of elimination. Assumes nothing: these are definitions.
 --   Agrees-below s p ws ms ys == the codeword of ys has the symbols of ws at every kept slot below p
 --   Taken                     what taking in slot p's equation leaves: just the solutions that agree there too; or there is none
 --   Gathered                  the same of all slots
@@ -8,18 +7,10 @@ use mathlib.Core.Logic.{_≢_}
 use mathlib.Core.Bool.{Bool, true, false}
 use mathlib.Core.List.{List}
 use Prim.Native.Nat.{ℕ, _<_}
-use lib.ListN.{length}
 use Rattle.algebra.specs.Sequence.{at}
-use Rattle.code.specs.Shape.{point}
-use Rattle.code.specs.Basis.{basis}
 use Rattle.code.specs.Codeword.{symbol}
 use Rattle.code.specs.declared.Shape.{Shape}
 use Rattle.linear.specs.System.{Vector, Solved, Echelon}
-
--- entry m is the value of basis polynomial m at the slot's point
-pub record Generator-row (s : Shape) (p : ℕ) (a z : List ℕ) : Type 0 where
-  pub size : length z ≡ length a
-  pub entry : (m : ℕ) → m < s .k → at z m ≡ basis s m (point s p)
 
 abbrev pub Agrees-at : Shape → (p : ℕ) → (word marks ys : List ℕ) → Type 0
 Agrees-at s p ws ms ys = at ms p ≢ 1 → symbol s ys p ≡ at ws p

@@ -6,7 +6,7 @@ ghost use Rattle.encode.specs.Encode.{Encode-says};
 ghost use Rattle.repair.specs.Mates.{Repair-says, Rebuild-says};
 ghost use Rattle.view.specs.View.{view-refusal, first-slot};
 ghost use Rattle.pass.specs.Pass.{Pass-says};
-ghost use Rattle.losses.specs.Losses.{Grade-says};
+ghost use Rattle.grading.specs.Grade.{Grade-says};
 ghost use Rattle.decode.specs.Decode.{Decode-says};
 ghost use Rattle.sheet.specs.Calls.{Write-says};
 ghost use Rattle.reporting.specs.Report.{Report-says};
@@ -123,7 +123,7 @@ pub extern "C" fn latsefidy_decode(
 pub extern "C" fn latsefidy_grade(field: u32, r: u32, n: u32, k: u32, marks: &[u8]) -> u64
     ensures { λ x. ⌜ Grade-says (code-refusal (code-of field r n k)) (single (code-of field r n k)) (now (marks .entry)) (unpacked x) ⌝ }
 {
-    packed(losses::grade(Code { field, r, n, k }, marks))
+    packed(grading::grade(Code { field, r, n, k }, marks))
 }
 
 // Decodes a stripe and writes its record.

@@ -1,3 +1,2 @@
-pub mod Counts
-pub mod Grades
-pub mod Refusals
+mod Counts
+mod Sure

@@ -19,7 +19,7 @@ pub fn run_one(record: &[u8], call: Call) -> bool {
     let answer = match number {
         3 => packed(repair::repair(code_of(call), call.slot, a)),
         5 => packed(view::view_first(code_of(call), call.slot, a)),
-        _ => packed(losses::grade(code_of(call), a)),
+        _ => packed(grading::grade(code_of(call), a)),
     };
     vectors::agrees_one(record, answer, a)
 }

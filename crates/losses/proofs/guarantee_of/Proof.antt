@@ -4,7 +4,7 @@ use Prim.Native.Nat.{_+_}
 use native.Mathlib.Omega.{arith}
 use Rattle.code.proofs.Places.{missing-less}
 use Rattle.code.proofs.Bounds.{n-most, r-most}
-use Rattle.losses.proofs.Grades.{sure-is, blocks-least}
+use Rattle.losses.proofs.Sure.{sure-is, blocks-least}
 use Rattle.losses.proofs.guarantee_of.Statement.{statement}
 use Rattle.losses.proofs.guarantee_of.Tie as tie
 

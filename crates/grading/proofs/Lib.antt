@@ -1,0 +1,2 @@
+mod Grades
+mod Refusals

@@ -1,0 +1,20 @@
+use mathlib.Core.Path.{sym, _∙_}
+use Rattle.code.proofs.Accepted.{plain-of}
+use borrow.Author.Needs.{needs}
+use Rattle.grading.proofs.grade.Statement.{statement}
+use Rattle.grading.proofs.grade.Tie as tie
+
+code-refusal-requires : tie.Need-code-refusal-requires
+code-refusal-requires c κs = search needs
+
+single-requires : tie.Need-single-requires
+single-requires c κs = search needs
+
+grade-with-requires : tie.Need-grade-with-requires
+grade-with-requires c κs z = rw (c .single .ensures) (plain-of (c .before .before .before .args .code) (sym (c .before .code-refusal .ensures) ∙ z))
+
+returns : tie.Need-returns
+returns c = rw (c .before .before .code-refusal .ensures, c .before .single .ensures) at (c .grade-with .ensures)
+
+pub grade-spec : {M : Type 1} → statement M
+grade-spec = tie.close (tie.spec code-refusal-requires single-requires grade-with-requires returns)
