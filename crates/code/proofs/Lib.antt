@@ -8,6 +8,7 @@ pub mod Codewords
 pub mod Sums
 pub mod Distance
 pub mod Decoding
+pub mod Fits
 pub mod Bridges
 pub mod Verdicts
 pub mod Others

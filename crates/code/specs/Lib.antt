@@ -12,3 +12,4 @@ pub mod Family
 pub mod Laws
 pub mod Verdict
 pub mod Promise
+pub mod Step

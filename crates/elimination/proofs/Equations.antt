@@ -1,8 +1,6 @@
 -- The kept slots' equations: what fits is what solves them. Assumes nothing.
---   kept-symbol                             a kept symbol is below q
 --   filled-echelon, filled-below, taken, taken-lost   one slot: its generator row is the newcomer
 --   Gathering, gathering-*, gathered-*      one slot after the other
---   Fit, fits-to, fits-of                   a message fits where it agrees with every kept slot
 use mathlib.Core.Path.{_≡_, sym, ap, _∙_}
 use mathlib.Core.Logic.{_≢_}
 use mathlib.Core.Bool.{Bool, true, false, _||_}
@@ -40,13 +38,6 @@ use Rattle.elimination.specs.Task.{work-size}
 use Rattle.elimination.specs.Step.{Agrees-at, Agrees-below, Taken, Gathered}
 use Rattle.generator_matrix.specs.Row.{Generator-row}
 use Rattle.generator_matrix.proofs.Generators.{symbol-is}
-
--- a kept symbol is below q
-pub kept-symbol : (s : Shape) (ws ms : List ℕ) → kept-below s ws ms ≡ true → (p : ℕ) → p < s .n → at ms p ≢ 1 → at ws p < q (s .field)
-unfolding kept-below lost
-kept-symbol s ws ms e p h n =
-    let t : T (eqb (at ms p) 1 || ltb (at ws p) (q (s .field))) = every-at (λ p. lost ms p || ltb (at ws p) (q (s .field))) (s .n) (so e) p h in
-    ltb→lt (at ws p) (q (s .field)) (rw (ne-eqb (at ms p) 1 n) at t)
 
 -- where the newcomer starts, and the buffer from there on
 unfoldable pub start : Shape → ℕ
@@ -170,33 +161,3 @@ gathered-all s p ws ms b e G =
       solve = λ _ ys v o. G .solve ys v (λ i h. o i (omega arith));
       none = λ z. differ z;
     }
-
--- what fits
-says-kept : (a b v : ℕ) → (a ≢ 1 → b ≡ v) → T (eqb a 1 || eqb b v)
-says-kept a b v h = go (ℕ-discrete a 1)
-  where
-    go : Dec (a ≡ 1) → T (eqb a 1 || eqb b v)
-    go (yes p) = rw (eq-eqb a 1 p) tt
-    go (no p) = rw (ne-eqb a 1 p) (so (eq-eqb b v (h p)))
-
-pub record Fit (s : Shape) (ws ms ys : List ℕ) : Type 0 where
-  pub vector : Vector (s .field) (s .k) ys
-  pub agree : Agrees-below s (s .n) ws ms ys
-
-module _ (s : Shape) (ws ms ys : List ℕ) where
-  pub fits-to : fits s ws ms ys ≡ true → Fit s ws ms ys
-  unfolding lost
-  fits-to e =
-      let m = message-is s ys (fits-message s ws ms ys e) in
-      record {
-        vector = record { size = m .length-is; below = yes-true (all-below (q (s .field)) ys) (m .below) };
-        agree = λ p h n. sym (at-encoded s ys p h) ∙ agrees-kept s (encoded s ys) ws ms (fits-agrees s ws ms ys e) p h (ne-eqb (at ms p) 1 n);
-      }
-
-  pub fits-of : Fit s ws ms ys → fits s ws ms ys ≡ true
-  unfolding agrees lost
-  fits-of F =
-      fits-intro s ws ms ys (is-message-of s ys (record { length-is = F .vector .size; below = so (F .vector .below) }))
-      (yes-true (agrees s (encoded s ys) ws ms)
-      (every-intro (λ p. lost ms p || eqb (at (encoded s ys) p) (at ws p)) (s .n)
-      (λ p h. says-kept (at ms p) (at (encoded s ys) p) (at ws p) (λ n. at-encoded s ys p h ∙ F .agree p h n))))

@@ -4,9 +4,10 @@ ghost use Prim.Native.Nat.{_<_, _≤_};
 ghost use lib.ListN.{length, replicate};
 ghost use Rattle.field.specs.Table.{Powers, Logs};
 ghost use Rattle.code.specs.Laws.{Plain};
+ghost use Rattle.code.specs.Step.{Received};
 ghost use Rattle.code.specs.Verdict.{Verdict};
 ghost use Rattle.linear.specs.System.{Echelon};
-ghost use Rattle.elimination.specs.Task.{Received, work-size, Task};
+ghost use Rattle.elimination.specs.Task.{work-size, Task};
 ghost use Rattle.elimination.specs.Step.{Taken, Gathered};
 use code::Shape;
 

@@ -38,7 +38,7 @@ use Rattle.code.proofs.Grouped.{exponent-is, exponent-raised}
 use Rattle.code.proofs.Shared.{exponents-are}
 use Rattle.code.proofs.Coefficients.{coefficients, coefficients-below, length-coefficients, coefficients-value, coefficient-at, coefficient-gap, Place, taken, gap as gap-at, place}
 use Rattle.interpolation.specs.Interpolated.{Passes, Interpolated}
-use Rattle.elimination.proofs.Equations.{Fit, fits-to, fits-of}
+use Rattle.code.proofs.Fits.{Fit, fits-to, fits-of}
 use Rattle.fitting.specs.Step.{gap, gaps-zero, message-of}
 use Rattle.fitting.proofs.Values.{poly-ext}
 
@@ -134,7 +134,7 @@ module _ (s : Shape) (D : Decodable s) (sure : ℕ) (e : sure ≡ guarantee s) (
     F = fits-to s ws ms ys f
 
     M : Message-is s ys
-    M = record { length-is = F .vector .size; below = so (F .vector .below) }
+    M = F .message
 
     passes : Passes (s .field) (s .n) xs ws ms (coefficients s ys)
     passes p h n = ap (poly (s .field) (coefficients s ys)) (W p h) ∙ value-of ys M p ∙ F .agree p h n
@@ -217,7 +217,7 @@ module _ (s : Shape) (D : Decodable s) (sure : ℕ) (e : sure ≡ guarantee s) (
     fit =
         fits-of s ws ms (message-of s cs)
         (record {
-          vector = record { size = N .length-is; below = yes-true (all-below (q (s .field)) (message-of s cs)) (N .below) };
+          message = N;
           agree = λ p h n.
               sym (value-of (message-of s cs) N p)
               ∙ poly-ext (s .field) (coefficients s (message-of s cs)) cs (point s p) (point-below s p) same

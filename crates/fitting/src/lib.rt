@@ -8,7 +8,7 @@ ghost use Rattle.code.specs.Codeword.{guarantee};
 ghost use Rattle.code.specs.Erasure.{lost-number};
 ghost use Rattle.code.specs.Laws.{Plain, Decodable};
 ghost use Rattle.code.specs.Verdict.{Verdict};
-ghost use Rattle.elimination.specs.Task.{Received};
+ghost use Rattle.code.specs.Step.{Received};
 ghost use Rattle.fitting.specs.Step.{Pointed, gaps-zero, message-of};
 use code::Shape;
 

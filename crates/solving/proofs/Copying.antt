@@ -27,8 +27,8 @@ use Rattle.code.specs.declared.Shape.{Shape}
 use Rattle.interpolation.specs.Interpolated.{masked}
 use Rattle.interpolation.proofs.Marks.{masked-kept}
 use Rattle.code.specs.Verdict.{Verdict}
-use Rattle.elimination.specs.Task.{Received}
-use Rattle.elimination.proofs.Equations.{kept-symbol, fits-to, fits-of}
+use Rattle.code.specs.Step.{Received}
+use Rattle.code.proofs.Fits.{kept-symbol, fits-to, fits-of}
 use Rattle.code.proofs.Verdicts.{verdict-same}
 
 -- the marks
@@ -48,7 +48,7 @@ loaded n ws ms a z W p h k = getD-take n z p 0 h ∙ W .put p (omega arith) h �
 fits-same : (s : Shape) (ws vs ms ys : List ℕ) → Kept-same (s .n) ws vs ms → fits s ws ms ys ≡ true → fits s vs ms ys ≡ true
 fits-same s ws vs ms ys e f =
     let F = fits-to s ws ms ys f in
-    fits-of s vs ms ys (record { vector = F .vector; agree = λ p h k. F .agree p h k ∙ sym (e p h k) })
+    fits-of s vs ms ys (record { message = F .message; agree = λ p h k. F .agree p h k ∙ sym (e p h k) })
 
 module _ (s : Shape) (ws vs ms : List ℕ) (e : Kept-same (s .n) ws vs ms) where
   kept-loaded : kept-below s ws ms ≡ true → kept-below s vs ms ≡ true

@@ -28,7 +28,7 @@ use Rattle.code.specs.Verdict.{Verdict, one, none, more}
 use Rattle.code.proofs.Keeping.{before-and-after}
 use Rattle.code.proofs.Verdicts.{verdict-same}
 use Rattle.code.proofs.Passing.{passed-at, mark-at, at-passed, at-marks}
-use Rattle.elimination.specs.Task.{Received}
+use Rattle.code.specs.Step.{Received}
 use Rattle.solving.specs.Step.{Tried}
 
 -- a sum of products is below q

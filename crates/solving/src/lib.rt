@@ -4,7 +4,8 @@ ghost use lib.ListN.{length, replicate};
 ghost use Rattle.field.specs.Table.{Powers, Logs};
 ghost use Rattle.code.specs.Laws.{Decodable};
 ghost use Rattle.code.specs.Verdict.{Verdict};
-ghost use Rattle.elimination.specs.Task.{Received, Task};
+ghost use Rattle.code.specs.Step.{Received};
+ghost use Rattle.elimination.specs.Task.{Task};
 ghost use Rattle.solving.specs.Step.{Tried};
 use code::Shape;
 

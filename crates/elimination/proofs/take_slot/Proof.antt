@@ -1,4 +1,5 @@
-use Rattle.elimination.proofs.Equations.{start, part-room, filled-echelon, filled-below, taken, taken-lost, kept-symbol}
+use Rattle.elimination.proofs.Equations.{start, part-room, filled-echelon, filled-below, taken, taken-lost}
+use Rattle.code.proofs.Fits.{kept-symbol}
 use borrow.Author.Needs.{needs}
 use Rattle.elimination.proofs.take_slot.Statement.{statement}
 use Rattle.elimination.proofs.take_slot.Tie as tie

@@ -2,7 +2,7 @@ use borrow.Author.Needs.{needs}
 use borrow.Author.Tests.{not-true, not-false}
 use mathlib.Core.Path.{sym, _∙_}
 use Rattle.code.proofs.Bounds.{n-most}
-use Rattle.elimination.proofs.Equations.{kept-symbol}
+use Rattle.code.proofs.Fits.{kept-symbol}
 use Rattle.fitting.proofs.Pointing.{pointed-all}
 use Rattle.fitting.proofs.Interpolating.{points-below, points-differ, sure-most, within, verdict-missed, verdict-foreign, verdict-read}
 use Rattle.fitting.proofs.solve_within.Statement.{statement}

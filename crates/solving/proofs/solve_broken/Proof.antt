@@ -8,7 +8,7 @@ use Rattle.code.specs.declared.Shape.{Shape}
 use Rattle.code.specs.Laws.{Decodable}
 use Rattle.code.proofs.Bounds.{n-most}
 use Rattle.code.specs.Verdict.{Verdict}
-use Rattle.elimination.specs.Task.{Received}
+use Rattle.code.specs.Step.{Received}
 use Rattle.solving.proofs.Copying.{front, loaded-size, loaded, received-loaded, verdict-loaded}
 use Rattle.solving.proofs.solve_broken.Statement.{statement}
 use Rattle.solving.proofs.solve_broken.Tie as tie
