@@ -1,6 +1,5 @@
 // Decimal numbers separated by white space: the words of an input, parts of it without white space.
 ghost use Prim.Native.Nat.{_≤_};
-ghost use lib.ListN.{length};
 
 // The most bytes of an input.
 const MOST: usize = 4096;

@@ -1,10 +1,8 @@
 // Decoding: the questions, then the message that alone agrees with the kept symbols.
 ghost use mathlib.Core.Path.{_≡_};
-ghost use mathlib.Core.Bool.{true};
-ghost use Prim.Native.Nat.{_*_, _+_, _≤_};
+ghost use Prim.Native.Nat.{_*_, _+_};
 ghost use lib.ListN.{length};
 ghost use Rattle.code.specs.Family.{single, code-refusal};
-ghost use Rattle.code.specs.Erasure.{kept-below};
 ghost use Rattle.code.specs.Verdict.{Verdict};
 ghost use Rattle.code.specs.Laws.{Decodable};
 ghost use Rattle.decode.specs.Decode.{decode-refusal, cleared, Decode-says};

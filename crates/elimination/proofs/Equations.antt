@@ -3,19 +3,17 @@
 --   Gathering, gathering-*, gathered-*      one slot after the other
 use mathlib.Core.Path.{_≡_, sym, ap, _∙_}
 use mathlib.Core.Logic.{_≢_}
-use mathlib.Core.Bool.{Bool, true, false, _||_}
+use mathlib.Core.Bool.{Bool, true, false}
 use mathlib.Core.List.{List, _++_}
 use Prim.Native.Nat.{ℕ, _+_, _*_, _-_, _≤_, _<_}
 use native.Mathlib.Decide.{ℕ-discrete}
 use native.Mathlib.Omega.{arith}
-use lib.Dec.{T, eqb, ltb, ltb→lt}
+use lib.Dec.{T}
 use lib.ListN.{length, take, drop, replicate, length-drop, List·getD-append}
 use lib.Seq.{getD-drop, getD-take, length-take-le, getD-append-add}
 use borrow.Rule.Slice.PartMut.{putMid, midOf, postOf, same-len-mid}
-use borrow.Author.Tests.{ne-eqb, eq-eqb}
-use Rattle.algebra.specs.Sequence.{at, all-below}
-use Rattle.algebra.proofs.Booleans.{so, yes-true, differ}
-use Rattle.algebra.proofs.Every.{every-at, every-intro}
+use Rattle.algebra.specs.Sequence.{at}
+use Rattle.algebra.proofs.Booleans.{differ}
 use Rattle.algebra.proofs.Strides.{row-step}
 use Rattle.field.specs.Field.{q}
 use Rattle.field.specs.Polynomial.{dotted}
@@ -23,13 +21,9 @@ use Rattle.field.proofs.Elem.{power-below}
 use Rattle.field.proofs.Products.{dotted-take}
 use Rattle.code.specs.Shape.{whole, point}
 use Rattle.code.specs.Basis.{basis, exponent}
-use Rattle.code.specs.Codeword.{symbol, encoded}
-use Rattle.code.specs.Decoding.{lost, agrees, fits}
-use Rattle.code.specs.Erasure.{kept-below}
+use Rattle.code.specs.Codeword.{symbol}
 use Rattle.code.specs.declared.Shape.{Shape}
 use Rattle.code.proofs.Points.{point-below}
-use Rattle.code.proofs.Codewords.{message-is, is-message-of, at-encoded}
-use Rattle.code.proofs.Decoding.{fits-message, fits-agrees, fits-intro, agrees-kept}
 use Rattle.code.proofs.Monomial.{basis-power}
 use Rattle.linear.specs.System.{Vector, entry, coefs, residue, Solved, Echelon, Inserted}
 use Rattle.linear.proofs.Elements.{echelon-kept, residue-kept}

@@ -13,7 +13,7 @@ use lib.Arith.{digits-mod}
 use lib.Dec.{eqb, eqb→eq}
 use lib.ListN.{List·getD-eq-default}
 use borrow.Author.Tests.{eq-eqb}
-use Rattle.algebra.specs.Sequence.{at, tabulate, count, all-below}
+use Rattle.algebra.specs.Sequence.{at, tabulate, count}
 use Rattle.algebra.proofs.Booleans.{so, yes-true, differ}
 use Rattle.algebra.proofs.Tabulate.{length-tabulate, at-tabulate, tabulate-is, tabulate-same}
 use Rattle.algebra.proofs.Every.{every-at, every-intro}

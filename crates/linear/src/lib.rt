@@ -2,7 +2,7 @@
 ghost use mathlib.Core.Path.{_≡_};
 ghost use Prim.Native.Nat.{ℕ, _+_, _*_, _<_, _≤_};
 ghost use lib.ListN.{length, replicate};
-ghost use Rattle.field.specs.Field.{q, plus, minus, times, inverse};
+ghost use Rattle.field.specs.Field.{q, minus, inverse};
 ghost use Rattle.field.specs.Table.{Powers, Logs};
 ghost use Rattle.linear.specs.System.{entry, residue, Echelon, Inserted, Finished};
 ghost use Rattle.linear.specs.Step.{Added, Apart, Ready, Went-through, Went-through-all, Backed, Bared};

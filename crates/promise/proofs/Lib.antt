@@ -1,6 +1,4 @@
-pub mod Encoding
-pub mod Losing
-pub mod Sending
-pub mod Promises
-pub mod Returning
-pub mod Gathering
+mod Losing
+mod Sending
+mod Returning
+mod Gathering

@@ -32,9 +32,9 @@ use Rattle.decode.specs.Promise.{Decodes-returned}
 use Rattle.decode.proofs.Promises.{promises as decode-promises}
 use Rattle.promise.specs.RoundTrip.{after-loss, send-refusal, Handed, Decodes-as, Comes-back, Repairs-as, Restored}
 use Rattle.promise.specs.Step.{Left}
-use Rattle.promise.proofs.Encoding.{encode-passes}
+use Rattle.demand.proofs.Encoding.{encode-passes}
 use Rattle.promise.proofs.Losing.{length-loss, loss-agrees, loss-mates}
-use Rattle.promise.proofs.Promises.{within-sure}
+use Rattle.demand.proofs.Promises.{within-sure}
 
 module _ (c : Code) (ms ks os : List ℕ) where
   send-passes : (l w : ℕ) → Handed c ms ks os l w → send-refusal c ms ks os l w ≡ 0

@@ -21,7 +21,7 @@ use Rattle.code.proofs.Codewords.{length-encoded}
 use Rattle.encode.specs.Encode.{encode-refusal, Encode-says}
 use Rattle.promise.specs.RoundTrip.{after-loss, send-refusal}
 use Rattle.promise.specs.Step.{Left}
-use Rattle.promise.proofs.Encoding.{encode-is, encode-cond}
+use Rattle.demand.proofs.Encoding.{encode-is, encode-cond}
 
 -- x is encode's answer, x₁ to x₃ what is answered so far after each question
 module _ (c : Code) (ms ks os cs ws : List ℕ) (x x₁ x₂ x₃ : ℕ) (z : List ℕ) (says : Encode-says (code-refusal c) (single c) ms x cs z)

@@ -1,3 +1,2 @@
-pub mod Demand
 pub mod RoundTrip
 pub mod Step

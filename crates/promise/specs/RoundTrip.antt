@@ -23,7 +23,7 @@ use Rattle.code.specs.Repair.{symbols-of}
 use Rattle.encode.specs.Encode.{encode-refusal}
 use Rattle.repair.specs.Mates.{Repair-says}
 use Rattle.decode.specs.Decode.{Decode-says}
-use Rattle.promise.specs.Demand.{Within}
+use Rattle.demand.specs.Demand.{Within}
 
 unfoldable pub after-loss : (codeword marks other : List ℕ) → List ℕ
 after-loss cs ks os = tabulate (λ p. cond (lost ks p) (at os p) (at cs p)) (length cs)

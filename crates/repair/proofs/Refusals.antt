@@ -17,7 +17,6 @@ use Rattle.repair.specs.Mates.{strips-fit, mates-refusal}
 
 pub record Mates-passed (n : ℕ) (s : Shape) (p l : ℕ) (xs : List ℕ) : Type 0 where
   pub accepted : n ≡ 0
-  pub l-least : 1 ≤ l
   pub l-most : l ≤ 4096
   pub length-is : length xs ≡ s .r * l
   pub slot-below : p < s .n
@@ -37,7 +36,6 @@ module _ (n : ℕ) (s : Shape) (p l : ℕ) (xs : List ℕ) where
       let range = and-left (leb 1 l && leb l 4096) (eqb (length xs) (s .r * l)) (t₁ .0) in
       record {
         accepted = t₀ .0;
-        l-least = leb→le 1 l (and-left (leb 1 l) (leb l 4096) range);
         l-most = leb→le l 4096 (and-right (leb 1 l) (leb l 4096) range);
         length-is = eqb→eq (length xs) (s .r * l) (and-right (leb 1 l && leb l 4096) (eqb (length xs) (s .r * l)) (t₁ .0));
         slot-below = ltb→lt p (s .n) (t₂ .0);

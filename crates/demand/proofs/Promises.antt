@@ -24,8 +24,8 @@ use Rattle.repair.proofs.Promises.{repair-restores}
 use Rattle.decode.specs.Decode.{Decode-says}
 use Rattle.decode.specs.Promise.{Decodes-returned}
 use Rattle.decode.proofs.Promises.{promises as decode-promises}
-use Rattle.promise.specs.Demand.{Within, Shares-at-most, Group-tells, Decode-returns, Repair-returns, Promises}
-use Rattle.promise.proofs.Encoding.{encode-fills}
+use Rattle.demand.specs.Demand.{Within, Shares-at-most, Group-tells, Decode-returns, Repair-returns, Promises}
+use Rattle.demand.proofs.Encoding.{encode-fills}
 
 -- losses within the paper's bound are within the guarantee
 pub within-sure : (c : Code) (ks : List ℕ) → Accepted c → Within c ks → lost-number (single c) ks ≤ guarantee (single c)
