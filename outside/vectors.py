@@ -527,16 +527,17 @@ def make_call(rng, name, index):
 
 
 def main():
-    seed, count = sys.argv[1], int(sys.argv[2])
+    seed, count, left_out = sys.argv[1], int(sys.argv[2]), sys.argv[3:]
+    names = [name for name in CALLS if name not in left_out]
     rng, seen, out = random.Random(seed), Counter(), sys.stdout.buffer
     for index in range(count):
-        for name in CALLS:
+        for name in names:
             data, number = make_call(rng, name, index)
             out.write(data)
             seen[name, number] += 1
     out.write(numbers(0))
     out.flush()
-    for name in CALLS:
+    for name in names:
         row = [f"{a}:{seen[name, a]}" for a in sorted(ANSWERS[name])]
         print(f"{name:12}", *row, file=sys.stderr)
         stray = {a for n, a in seen if n == name} - ANSWERS[name]

@@ -12,18 +12,6 @@ fn run_decode(record: &[u8], call: Call, a: &[u8], b: &[u8]) -> bool {
     vectors::agrees_four(record, vectors::pair(refusal, 0), a, b, c, d)
 }
 
-// Decodes a word with marks and draws its record: whether the answer and the buffers are as they should be.
-fn run_record(record: &[u8], call: Call, a: &[u8], b: &[u8]) -> bool {
-    let mut room_c = vectors::bytes_of(record, 2);
-    let mut room_d = vectors::bytes_of(record, 3);
-    let mut room_e = vectors::numbers_of(record);
-    let c = vectors::front(record, 2, &mut room_c);
-    let d = vectors::front(record, 3, &mut room_d);
-    let e = vectors::front_numbers(record, &mut room_e);
-    let refusal = record_binding::record_into(code_of(call), a, b, c, d, e);
-    vectors::agrees_record(record, vectors::pair(refusal, 0), a, b, c, d, e)
-}
-
 // Writes a sheet of a word with marks: whether the answer and the buffers are the record's.
 fn run_write(record: &[u8], call: Call, a: &[u8], b: &[u8]) -> bool {
     let mut room = vectors::bytes_of(record, 2);
@@ -41,7 +29,6 @@ pub fn run_word(record: &[u8], call: Call) -> bool {
     let number = call.number;
     match number {
         7 => run_decode(record, call, a, b),
-        9 => run_record(record, call, a, b),
         _ => run_write(record, call, a, b),
     }
 }

@@ -1,4 +1,4 @@
-// Counts of the calls of the C library and of their mismatches, and the lines that print them.
+// Counts of calls and of their mismatches, and the lines that print them.
 // Number i of the counts is how often call i was made, from 1 to 12, and number 13 + i is how often it mismatched.
 
 // One more.
@@ -59,10 +59,8 @@ fn put_low(counts: &[u32]) {
 fn put_high(counts: &[u32]) {
     put_line(b"decode", counts, 7);
     put_line(b"grade", counts, 8);
-    put_line(b"record", counts, 9);
     put_line(b"read_sheet", counts, 10);
     put_line(b"write_sheet", counts, 11);
-    put_line(b"report", counts, 12);
 }
 
 // The lines of all calls.

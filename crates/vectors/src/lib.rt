@@ -149,11 +149,10 @@ fn same_wide(record: &[u8], before: usize, after: usize, buffer: &[u32]) -> bool
     true
 }
 
-// How many buffers of bytes the call has; record and read_sheet have one of numbers behind them.
+// How many buffers of bytes the call has; read_sheet has one of numbers behind them.
 fn narrow(record: &[u8]) -> usize {
     let all = number(record, 24) as usize;
     match number(record, 0) {
-        9 => 4,
         10 => 3,
         _ => all,
     }
@@ -320,22 +319,6 @@ pub fn agrees_sheet(
     numbers: &[u32],
 ) -> bool {
     if !agrees_three(record, answer, a, b, c) {
-        return false;
-    }
-    same_numbers(record, numbers)
-}
-
-// Whether the answer and the buffers of a call of record are what they should be.
-pub fn agrees_record(
-    record: &[u8],
-    answer: u64,
-    a: &[u8],
-    b: &[u8],
-    c: &[u8],
-    d: &[u8],
-    numbers: &[u32],
-) -> bool {
-    if !agrees_four(record, answer, a, b, c, d) {
         return false;
     }
     same_numbers(record, numbers)

@@ -1,8 +1,8 @@
 use Prim.Native.Nat.{_-_, _≤_}
 use native.Mathlib.Omega.{arith}
 use lib.ListN.{length}
-use Rattle.classroom.proofs.first_large.Statement.{statement}
-use Rattle.classroom.proofs.first_large.Tie as tie
+use Rattle.class_sheet.proofs.first_large.Statement.{statement}
+use Rattle.class_sheet.proofs.first_large.Tie as tie
 
 abbrev Inv-loop : tie.InvT-loop
 Inv-loop message i₀ i = i ≤ length message

@@ -7,8 +7,8 @@ use Rattle.code.specs.declared.Shape.{Shape}
 use Rattle.code.specs.Family.{single, code-refusal}
 use Rattle.code.specs.Laws.{Decodable}
 use Rattle.code.proofs.Accepted.{decodable-of}
-use Rattle.classroom.proofs.put_numbers.Statement.{statement}
-use Rattle.classroom.proofs.put_numbers.Tie as tie
+use Rattle.class_sheet.proofs.put_numbers.Statement.{statement}
+use Rattle.class_sheet.proofs.put_numbers.Tie as tie
 
 accepted : (c : Code) (s : Shape) → s ≡ single c → code-refusal c ≡ 0 → c .field ≡ 0 → Decodable s × (s .field ≡ 0)
 accepted c s e o f = (subst Decodable (sym e) (decodable-of c o), ap (λ s. s .field) e ∙ f)

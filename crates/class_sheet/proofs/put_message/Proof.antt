@@ -8,8 +8,8 @@ use Rattle.code.specs.Laws.{Placed}
 use Rattle.code.proofs.Accepted.{mending}
 use Rattle.code.proofs.Places.{n-room}
 use borrow.Author.Needs.{needs}
-use Rattle.classroom.proofs.put_message.Statement.{statement}
-use Rattle.classroom.proofs.put_message.Tie as tie
+use Rattle.class_sheet.proofs.put_message.Statement.{statement}
+use Rattle.class_sheet.proofs.put_message.Tie as tie
 
 -- a shape over thirteen has twelve slots at the most
 twelve : (s : Shape) → s .field ≡ 0 → Placed s → s .n ≤ 12
