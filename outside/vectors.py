@@ -1,6 +1,6 @@
 """Random calls of the library with the reference's answers and every buffer after the call.
 
-    python3 outside/vectors.py SEED COUNT > FILE     COUNT calls of each function, on standard output
+    python3 outside/vectors.py SEED COUNT [NAME..] > FILE     COUNT calls of each function but those named, on standard output
 
 The calls are valid, damaged and refused, with one fault or with several at once, over both fields
 and the corner codes. A table of how often each answer came goes to standard error.

@@ -55,7 +55,7 @@ fn put_low(counts: &[u32]) {
     put_line(b"local_pass", counts, 6);
 }
 
-// The lines of calls 7 to 12.
+// The lines of calls 7, 8, 10 and 11; the record and the report are not made here.
 fn put_high(counts: &[u32]) {
     put_line(b"decode", counts, 7);
     put_line(b"grade", counts, 8);
