@@ -1,7 +1,7 @@
-// Copies between lent buffers.
+// Copies between lent buffers, and clears them.
 ghost use mathlib.Core.Path.{_≡_};
 ghost use Prim.Native.Nat.{_+_, _≤_};
-ghost use lib.ListN.{length};
+ghost use lib.ListN.{length, replicate};
 ghost use Rattle.algebra.specs.Sequence.{at};
 ghost use Rattle.algebra.specs.Writing.{Laid};
 
@@ -25,6 +25,17 @@ pub fn copy_numbers(from: &[u32], to: &mut [u32])
     let mut i: usize = 0;
     while i < to.len() {
         to[i] = from[i];
+        i += 1;
+    }
+}
+
+// Writes 0 to every place.
+pub fn clear(s: &mut [u8])
+    ensures { λ _. ⌜ now (s .exit) ≡ replicate (length (now (s .entry))) 0 ⌝ }
+{
+    let mut i: usize = 0;
+    while i < s.len() {
+        s[i] = 0;
         i += 1;
     }
 }

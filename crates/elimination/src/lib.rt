@@ -46,7 +46,7 @@ fn gather(
     requires { ⌜ Plain shape × Received shape (now word) (now marks) × (work-size shape ≤ length (now work)) × Powers 1 (now powers) × Logs (now logs) ⌝ }
     ensures { λ x. ⌜ Gathered shape (now (word .entry)) (now (marks .entry)) (now (work .exit)) x ⌝ }
 {
-    linear::clear(work);
+    copying::clear(work);
     let n = shape.n;
     let mut p: u32 = 0;
     while p < n {
@@ -72,12 +72,12 @@ pub fn solve_beyond(
     ensures { λ x. ⌜ Verdict shape (now (word .entry)) (now (marks .entry)) (now (message .entry)) (now (message .exit)) x × (now (work .exit) ≡ replicate (length (now (work .entry))) 0) ⌝ }
 {
     if !gather(shape, word, marks, work, powers, logs) {
-        linear::clear(work);
+        copying::clear(work);
         return 9;
     }
     let k = shape.k as usize;
     let one = linear::finish(shape.field, work, k, message, powers, logs);
-    linear::clear(work);
+    copying::clear(work);
     if one {
         return 0;
     }

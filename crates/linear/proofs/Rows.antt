@@ -1,16 +1,14 @@
 -- Rows of a buffer: where they stand, and what a row operation writes. Assumes nothing.
 --   rows-apart                 rows lie behind each other
---   filled                     a buffer of zeros
 --   added-more                 a row operation, one column more
 --   row-others, row-put        the same on whole rows, where the columns before the first written are 0
 use mathlib.Core.Path.{_≡_, sym, ap, ap₂, _∙_}
 use mathlib.Core.Logic.{_≢_}
-use mathlib.Core.List.{List, _++_, append-nil}
+use mathlib.Core.List.{List}
 use Prim.Native.Nat.{ℕ, _+_, _*_, _-_, _≤_, _<_}
 use native.Mathlib.Decide.{decLt}
 use native.Mathlib.Omega.{arith}
-use lib.ListN.{length, set, drop, replicate}
-use lib.Seq.{drop-length}
+use lib.ListN.{length, set}
 use Rattle.algebra.specs.Sequence.{at}
 use Rattle.algebra.specs.Writing.{Written}
 use Rattle.algebra.proofs.Writing.{laid-at, laid-more}
@@ -27,9 +25,6 @@ rows-apart k i j c n m p hm hp e = go (decLt i j)
     go : Dec (i < j) → ⊥
     go (yes h) = omega (arith, row-step i j (k + 1) h)
     go (no h) = let g : j < i = omega arith in omega (arith, row-step j i (k + 1) g)
-
-pub filled : (d : List ℕ) (n : ℕ) → n ≡ length d → replicate n 0 ++ drop n d ≡ replicate (length d) 0
-filled d n e = rw (e, drop-length d) (append-nil (replicate (length d) 0))
 
 pub added-more : (f : ℕ) (a b : List ℕ) (d s len c m v : ℕ) → Added f a b d s m c → m < len → Apart d s len → d + len ≤ length b
     → v ≡ plus f (at b (d + m)) (times f c (at b (s + m))) → Added f a (set b (d + m) v) d s (m + 1) c

@@ -1,22 +1,11 @@
 // Linear equations over a field, solved in a lent buffer. Rows 0 to k - 1 are in echelon form; row k is the newcomer.
 ghost use mathlib.Core.Path.{_≡_};
 ghost use Prim.Native.Nat.{ℕ, _+_, _*_, _<_, _≤_};
-ghost use lib.ListN.{length, replicate};
+ghost use lib.ListN.{length};
 ghost use Rattle.field.specs.Field.{q, minus, inverse};
 ghost use Rattle.field.specs.Table.{Powers, Logs};
 ghost use Rattle.linear.specs.System.{entry, residue, Echelon, Inserted, Finished};
 ghost use Rattle.linear.specs.Step.{Added, Apart, Ready, Went-through, Went-through-all, Backed, Bared};
-
-// All bytes 0: no equation.
-pub fn clear(s: &mut [u8])
-    ensures { λ r. ⌜ now (s .exit) ≡ replicate (length (now (s .entry))) 0 ⌝ }
-{
-    let mut i: usize = 0;
-    while i < s.len() {
-        s[i] = 0;
-        i += 1;
-    }
-}
 
 // The row at dst plus c times the row at src, len columns.
 fn add_row(field: u32, work: &mut [u8], dst: usize, src: usize, len: usize, c: u8)
@@ -143,7 +132,7 @@ fn back(
     requires { ⌜ Echelon field k (now work) × (length (now solution) ≡ k) × Powers 1 (now powers) × Logs (now logs) ⌝ }
     ensures { λ r. ⌜ Backed field k (now (work .entry)) (now (solution .exit)) ⌝ }
 {
-    clear(solution);
+    copying::clear(solution);
     let mut j = k;
     while j > 0 {
         j -= 1;

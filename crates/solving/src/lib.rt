@@ -59,7 +59,7 @@ fn solve_broken(
     if verdict == 11 {
         return elimination::solve_beyond(shape, word, marks, message, work, powers, logs);
     }
-    linear::clear(work);
+    copying::clear(work);
     verdict
 }
 
@@ -75,6 +75,6 @@ pub fn solve(shape: Shape, word: &[u8], marks: &[u8], message: &mut [u8], work: 
     if lost > sure {
         return solve_broken(shape, word, marks, message, work, &powers, &logs);
     }
-    linear::clear(work);
+    copying::clear(work);
     fitting::solve_within(shape, word, marks, message, &powers, &logs)
 }

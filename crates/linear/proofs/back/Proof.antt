@@ -9,7 +9,6 @@ use Rattle.linear.proofs.back.Statement.{statement}
 use Rattle.linear.proofs.back.Tie as tie
 use Rattle.linear.proofs.back.Reads as reads
 use Rattle.linear.proofs.back.Lts as lts
-use Rattle.linear.proofs.clear.Reads as clear-reads
 use Rattle.linear.proofs.value.Reads as value-reads
 
 abbrev Inv-loop : tie.InvT-loop

@@ -1,14 +1,16 @@
 use mathlib.Core.Path.{_≡_, refl, _∙_}
-use mathlib.Core.List.{_++_}
-use Prim.Native.Nat.{_-_, _≤_}
+use mathlib.Core.List.{List, _++_, append-nil}
+use Prim.Native.Nat.{ℕ, _-_, _≤_}
 use native.Mathlib.Omega.{arith}
 use lib.ListN.{length, drop, replicate, length-set}
+use lib.Seq.{drop-length}
 use borrow.Author.Fill.{fill-none, fill-more}
-use Rattle.linear.proofs.Rows.{filled}
-use Rattle.linear.proofs.clear.Statement.{statement}
-use Rattle.linear.proofs.clear.Tie as tie
-use Rattle.linear.proofs.clear.Reads as reads
-use Rattle.linear.proofs.clear.Lts as lts
+use Rattle.copying.proofs.clear.Statement.{statement}
+use Rattle.copying.proofs.clear.Tie as tie
+
+-- nothing is left behind the zeros
+filled : (d : List ℕ) (n : ℕ) → n ≡ length d → replicate n 0 ++ drop n d ≡ replicate (length d) 0
+filled d n e = rw (e, drop-length d) (append-nil (replicate (length d) 0))
 
 abbrev Inv-loop : tie.InvT-loop
 Inv-loop s₀ i₀ s i = (i ≤ length s₀) × (length s ≡ length s₀) × (s ≡ replicate i 0 ++ drop i s₀)
