@@ -121,10 +121,10 @@ pub fn dot(field: u32, a: &[u8], b: &[u8], n: usize, powers: &[u8; 255], logs: &
     ensures { λ r. ⌜ r ≡ dotted field (take n (now (a .entry))) (take n (now (b .entry))) ⌝ }
 {
     let mut sum: u8 = 0;
-    let mut i = n;
-    while i > 0 {
-        i -= 1;
+    let mut i: usize = 0;
+    while i < n {
         sum = mul_add(field, sum, a[i], b[i], powers, logs);
+        i += 1;
     }
     sum
 }

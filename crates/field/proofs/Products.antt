@@ -1,34 +1,36 @@
--- Sums of products, from the last entry to the first. Assumes nothing.
---   dotted-end     past the last entry the sum is 0
---   dotted-step    one entry more in front
+-- Sums of products over the first entries of two lists. Assumes nothing.
+--   dotted-none    of no entry
+--   dotted-last    one entry more, at the end
 --   dotted-stop, dotted-take    the sum stops with the first list
-use mathlib.Core.Path.{_≡_, refl, sym, ap, ap₂, _∙_}
+use mathlib.Core.Path.{_≡_, refl, sym, ap, _∙_}
 use mathlib.Core.List.{List, [], _∷_}
-use Prim.Native.Nat.{ℕ, zero, suc, _-_, _≤_, _<_}
+use Prim.Native.Nat.{ℕ, zero, suc, _+_, _≤_, _<_}
+use native.Mathlib.Numerals.{add-one}
 use native.Mathlib.Omega.{arith}
-use lib.ListN.{length, take, drop, drop-of-length-le}
-use lib.Seq.{drop-cons, getD-take, length-take-le, take-length}
+use lib.ListN.{length, take}
+use lib.Seq.{take-length}
 use Rattle.algebra.specs.Sequence.{at}
 use Rattle.field.specs.Field.{plus, times}
 use Rattle.field.specs.Polynomial.{dotted}
 use Rattle.field.proofs.Laws.{laws}
 
--- the entries from i to n - 1
-abbrev pub from : (f n : ℕ) → (a b : List ℕ) → (i : ℕ) → ℕ
-from f n a b i = dotted f (drop i (take n a)) (drop i (take n b))
-
-pub dotted-end : (f n : ℕ) (a b : List ℕ) → n ≤ length a → 0 ≡ from f n a b n
+pub dotted-none : (f : ℕ) (a b : List ℕ) → 0 ≡ dotted f (take 0 a) (take 0 b)
 unfolding dotted
-dotted-end f n a b h =
-    rw (drop-of-length-le (take n a) {i = n} (omega (arith, length-take-le n a h))) refl
+dotted-none f a b = refl
 
-pub dotted-step : (f n : ℕ) (a b : List ℕ) (i : ℕ) → n ≤ length a → n ≤ length b → i < n
-    → plus f (from f n a b (suc i)) (times f (at a i) (at b i)) ≡ from f n a b i
+last-suc : (f i : ℕ) (a b : List ℕ) → i < length a → i < length b
+    → plus f (dotted f (take i a) (take i b)) (times f (at a i) (at b i)) ≡ dotted f (take (suc i) a) (take (suc i) b)
 unfolding dotted
-dotted-step f n a b i h l k =
-    laws f .plus-comm (from f n a b (suc i)) (times f (at a i) (at b i))
-    ∙ ap₂ (λ x y. plus f (times f x y) (from f n a b (suc i))) (sym (getD-take n a i 0 k)) (sym (getD-take n b i 0 k))
-    ∙ ap₂ (dotted f) (sym (drop-cons (take n a) i 0 (omega (arith, length-take-le n a h)))) (sym (drop-cons (take n b) i 0 (omega (arith, length-take-le n b l))))
+last-suc f i [] b h l = absurd (omega arith)
+last-suc f i (x ∷ a) [] h l = absurd (omega arith)
+last-suc f zero (x ∷ a) (y ∷ b) h l = laws f .plus-comm 0 (times f x y)
+last-suc f (suc i) (x ∷ a) (y ∷ b) h l =
+    laws f .plus-assoc (times f x y) (dotted f (take i a) (take i b)) (times f (at a i) (at b i))
+    ∙ ap (plus f (times f x y)) (last-suc f i a b (omega arith) (omega arith))
+
+pub dotted-last : (f i : ℕ) (a b : List ℕ) → i < length a → i < length b
+    → plus f (dotted f (take i a) (take i b)) (times f (at a i) (at b i)) ≡ dotted f (take (i + 1) a) (take (i + 1) b)
+dotted-last f i a b h l = last-suc f i a b h l ∙ ap (λ n. dotted f (take n a) (take n b)) (sym (add-one i))
 
 pub dotted-stop : (f l : ℕ) (ys cs : List ℕ) → length ys ≤ l → dotted f ys (take l cs) ≡ dotted f ys cs
 unfolding dotted
