@@ -1,10 +1,12 @@
 // The questions that calls ask one after another, and the tests of marks and symbols behind them.
 ghost use mathlib.Core.Path.{_≡_};
+ghost use Prim.Native.Nat.{_≤_};
 ghost use lib.ListN.{length};
 ghost use Rattle.algebra.specs.Sequence.{count, all-below};
 ghost use Rattle.code.specs.Question.{ask, or-ask};
 ghost use Rattle.code.specs.Decoding.{lost};
 ghost use Rattle.code.specs.Erasure.{symbols-below, kept-below};
+ghost use Rattle.questions.specs.Step.{Highest};
 use code::Shape;
 
 // The first "no" decides: what was asked before, or the number where the answer is no.
@@ -32,6 +34,35 @@ pub fn all_below(entries: &[u8], most: u32) -> bool
         }
     }
     true
+}
+
+// The highest entry. The loop cannot end early: the compiler makes vectors of it.
+fn highest(entries: &[u8]) -> u8
+    requires { ⌜ 1 ≤ length (now entries) ⌝ }
+    ensures { λ x. ⌜ Highest (length (now (entries .entry))) (now (entries .entry)) x ⌝ }
+{
+    let mut high = entries[0];
+    let mut i: usize = 1;
+    while i < entries.len() {
+        if entries[i] > high {
+            high = entries[i];
+        }
+        i += 1;
+    }
+    high
+}
+
+// The same as all_below, for thousands of entries.
+pub fn strips_below(entries: &[u8], most: u32) -> bool
+    ensures { λ x. ⌜ x ≡ all-below most (now (entries .entry)) ⌝ }
+{
+    if most > 255 {
+        return true;
+    }
+    if entries.len() == 0 {
+        return true;
+    }
+    (highest(entries) as u32) < most
 }
 
 // How many marks are 1.
