@@ -1,63 +1,59 @@
-// Sums of weight times symbol over the columns of strips laid end to end.
+// Columns rebuilt: weights and symbols in, sums of weight times symbol out. No slot and no point comes here, and no crate that knows them is named.
 ghost use mathlib.Core.Path.{_≡_};
-ghost use Prim.Native.Nat.{_*_, _≤_, _<_};
+ghost use Prim.Native.Nat.{_+_, _*_, _≤_};
 ghost use lib.ListN.{length, take};
-ghost use Rattle.algebra.specs.Sequence.{tabulate, column};
-ghost use Rattle.field.specs.Polynomial.{dotted};
-ghost use Rattle.field.specs.Table.{Powers, Logs};
-ghost use Rattle.weights.specs.Weights.{sixteen};
+ghost use Rattle.algebra.specs.Sequence.{at, tabulate};
+ghost use Rattle.field.specs.Field.{plus, times};
+ghost use Rattle.field.specs.Polynomial.{dotted, weighed};
 
-// Column i of r strips of l symbols laid end to end, with zeros after it.
-fn column_of(strips: &[u8], r: usize, l: usize, i: usize) -> [u8; 16]
-    requires { ⌜ (r ≤ 16) × (i < l) × (l ≤ 4096) × (length (now strips) ≡ r * l) ⌝ }
-    ensures { λ x. ⌜ x ≡ sixteen (column r l i (now (strips .entry))) ⌝ }
+// Rebuilds one column: the sum of weight times symbol over the first r mates.
+pub fn rebuild_column(field: u32, weights: &[u8; 16], r: usize, mates: &[u8]) -> u8
+    requires { ⌜ (r ≤ length (now weights)) × (r ≤ length (now mates)) ⌝ }
+    ensures { λ x. ⌜ x ≡ dotted field (take r (now (weights .entry))) (take r (now (mates .entry))) ⌝ }
 {
-    let mut symbols = [0u8; 16];
-    let mut m: usize = 0;
-    while m < r {
-        symbols[m] = strips[m * l + i];
-        m += 1;
-    }
-    symbols
+    let powers = tables::power_table();
+    let logs = tables::log_table();
+    arithmetic::dot(field, weights, mates, r, &powers, &logs)
 }
 
-// Writes to each place of output the sum of weight times symbol over its column of the strips, column by column.
-fn plain_columns(
-    field: u32,
-    weights: &[u8; 16],
-    r: usize,
-    strips: &[u8],
-    output: &mut [u8],
-    powers: &[u8; 255],
-    logs: &[u8; 256],
-)
-    requires { ⌜ Powers 1 (now powers) × Logs (now logs) × (r ≤ 16) × (r ≤ length (now weights)) × (length (now output) ≤ 4096) × (length (now strips) ≡ r * length (now output)) ⌝ }
-    ensures { λ _. ⌜ now (output .exit) ≡ tabulate (λ i. dotted field (take r (now (weights .entry))) (column r (length (now (output .entry))) i (now (strips .entry)))) (length (now (output .entry))) ⌝ }
+// Adds w times the symbols from offset o on to the output.
+fn add_strip(field: u32, w: u8, strips: &[u8], o: usize, output: &mut [u8])
+    requires { ⌜ o + length (now output) ≤ length (now strips) ⌝ }
+    ensures { λ _. ⌜ now (output .exit) ≡ tabulate (λ i. plus field (at (now (output .entry)) i) (times field w (at (now (strips .entry)) (o + i)))) (length (now (output .entry))) ⌝ }
 {
-    let l = output.len();
     let mut i: usize = 0;
-    while i < l {
-        let column = column_of(strips, r, l, i);
-        output[i] = arithmetic::dot(field, weights, &column, r, powers, logs);
+    while i < output.len() {
+        let s = arithmetic::product(field, w, strips[o + i]);
+        output[i] = arithmetic::add(field, output[i], s);
         i += 1;
     }
 }
 
-// Writes to each place of output the sum of weight times symbol over its column of the strips; over bytes by the kernel.
-pub fn rebuild_columns(
-    field: u32,
-    weights: &[u8; 16],
-    r: usize,
-    strips: &[u8],
-    output: &mut [u8],
-    powers: &[u8; 255],
-    logs: &[u8; 256],
-)
-    requires { ⌜ Powers 1 (now powers) × Logs (now logs) × (r ≤ 16) × (r ≤ length (now weights)) × (length (now output) ≤ 4096) × (length (now strips) ≡ r * length (now output)) ⌝ }
-    ensures { λ _. ⌜ now (output .exit) ≡ tabulate (λ i. dotted field (take r (now (weights .entry))) (column r (length (now (output .entry))) i (now (strips .entry)))) (length (now (output .entry))) ⌝ }
+// Writes to each place of output the sum of weight times symbol over its column of the strips, strip by strip.
+fn plain_columns(field: u32, weights: &[u8; 16], r: usize, strips: &[u8], output: &mut [u8])
+    requires { ⌜ (r ≤ 16) × (r ≤ length (now weights)) × (length (now output) ≤ 4096) × (length (now strips) ≡ r * length (now output)) ⌝ }
+    ensures { λ _. ⌜ now (output .exit) ≡ weighed field (now (weights .entry)) r (length (now (output .entry))) (now (strips .entry)) ⌝ }
 {
+    let l = output.len();
+    copying::clear(output);
+    let mut j: usize = 0;
+    while j < r {
+        add_strip(field, weights[j], strips, j * l, output);
+        j += 1;
+    }
+}
+
+// Rebuilds many columns: writes to each place of output the sum of weight times symbol over its column of the strips; over bytes by the kernel.
+pub fn rebuild_columns(field: u32, weights: &[u8; 16], r: usize, strips: &[u8], output: &mut [u8])
+    requires { ⌜ (r ≤ 16) × (r ≤ length (now weights)) × (length (now output) ≤ 4096) × (length (now strips) ≡ r * length (now output)) ⌝ }
+    ensures { λ _. ⌜ now (output .exit) ≡ weighed field (now (weights .entry)) r (length (now (output .entry))) (now (strips .entry)) ⌝ }
+{
+    if output.len() == 1 {
+        output[0] = rebuild_column(field, weights, r, strips);
+        return;
+    }
     if field == 0 {
-        plain_columns(field, weights, r, strips, output, powers, logs);
+        plain_columns(field, weights, r, strips, output);
         return;
     }
     kernel::combine(weights, r, strips, output);

@@ -73,7 +73,7 @@ pub fn mend_group(
     let i = lost_member(marks);
     let member = i as u32;
     let slot = layout::slot_at(shape, group, member);
-    let weights = weights::weights_of(shape, slot, powers, logs);
+    let weights = weights::weights_of(shape, slot);
     let mates = mates_of(shape, part, member);
     part[i] = arithmetic::dot(
         shape.field,

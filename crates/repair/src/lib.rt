@@ -24,7 +24,7 @@ fn mates_refusal(refusal: u32, shape: Shape, slot: u32, strips: &[u8], l: usize)
     }
     questions::ask(
         d,
-        questions::all_below(strips, tables::order(shape.field)),
+        questions::strips_below(strips, tables::order(shape.field)),
         6,
     )
 }
@@ -41,17 +41,8 @@ pub fn repair_with(refusal: u32, shape: Shape, slot: u32, mates: &[u8]) -> Answe
             value: 0,
         };
     }
-    let powers = tables::power_table();
-    let logs = tables::log_table();
-    let weights = weights::weights_of(shape, slot, &powers, &logs);
-    let symbol = arithmetic::dot(
-        shape.field,
-        &weights,
-        mates,
-        shape.r as usize,
-        &powers,
-        &logs,
-    );
+    let weights = weights::weights_of(shape, slot);
+    let symbol = columns::rebuild_column(shape.field, &weights, shape.r as usize, mates);
     Answer {
         refusal: 0,
         value: symbol as u32,
@@ -70,7 +61,7 @@ pub fn repair(code: Code, slot: u32, mates: &[u8]) -> Answer
     )
 }
 
-// The strip rebuild call over any shape.
+// The strip rebuild call over any shape: the weights are made once, and what rebuilds the columns is handed nothing else of the slot.
 pub fn rebuild_with(refusal: u32, shape: Shape, slot: u32, strips: &[u8], output: &mut [u8]) -> u32
     requires { ⌜ (refusal ≡ 0 → Mending shape) ⌝ }
     ensures { λ x. ⌜ Rebuild-says refusal shape slot (now (strips .entry)) x (now (output .entry)) (now (output .exit)) ⌝ }
@@ -79,18 +70,8 @@ pub fn rebuild_with(refusal: u32, shape: Shape, slot: u32, strips: &[u8], output
     if refused != 0 {
         return refused;
     }
-    let powers = tables::power_table();
-    let logs = tables::log_table();
-    let weights = weights::weights_of(shape, slot, &powers, &logs);
-    columns::rebuild_columns(
-        shape.field,
-        &weights,
-        shape.r as usize,
-        strips,
-        output,
-        &powers,
-        &logs,
-    );
+    let weights = weights::weights_of(shape, slot);
+    columns::rebuild_columns(shape.field, &weights, shape.r as usize, strips, output);
     0
 }
 

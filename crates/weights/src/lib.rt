@@ -1,7 +1,6 @@
 // Repair weights, of any shape whose groups stand one loss.
 ghost use mathlib.Core.Path.{_≡_};
 ghost use Prim.Native.Nat.{_<_};
-ghost use Rattle.field.specs.Table.{Powers, Logs};
 ghost use Rattle.code.specs.Family.{single, code-refusal};
 ghost use Rattle.code.specs.Laws.{Mending};
 ghost use Rattle.code.specs.Repair.{weights};
@@ -16,23 +15,25 @@ pub struct RepairWeights {
 }
 
 // The repair weights of a slot, with zeros after them: minus each mate's point by the slot's.
-pub fn weights_of(shape: Shape, slot: u32, powers: &[u8; 255], logs: &[u8; 256]) -> [u8; 16]
-    requires { ⌜ Powers 1 (now powers) × Logs (now logs) × Mending shape × (slot < shape .n) ⌝ }
+pub fn weights_of(shape: Shape, slot: u32) -> [u8; 16]
+    requires { ⌜ Mending shape × (slot < shape .n) ⌝ }
     ensures { λ x. ⌜ x ≡ sixteen (weights shape slot) ⌝ }
 {
+    let powers = tables::power_table();
+    let logs = tables::log_table();
     let field = shape.field;
     let r = shape.r;
     let group = layout::group_of(shape, slot);
     let member = layout::member_of(shape, slot);
     let width = layout::width_of(shape);
     let x = layout::member_point(field, width, group, member);
-    let inverse = arithmetic::inverse_of(field, x, powers, logs);
+    let inverse = arithmetic::inverse_of(field, x, &powers, &logs);
     let mut weights = [0u8; 16];
     let mut i: u32 = 0;
     while i < r {
         let mate = layout::mate_member(member, i);
         let y = layout::member_point(field, width, group, mate);
-        let t = arithmetic::mul(field, y, inverse, powers, logs);
+        let t = arithmetic::mul(field, y, inverse, &powers, &logs);
         let w = arithmetic::sub(field, 0, t);
         weights[i as usize] = w;
         i += 1;
@@ -52,12 +53,9 @@ pub fn weights_with(refusal: u32, shape: Shape, slot: u32) -> RepairWeights
             weights: [0u8; 16],
         };
     }
-    let powers = tables::power_table();
-    let logs = tables::log_table();
-    let weights = weights_of(shape, slot, &powers, &logs);
     RepairWeights {
         refusal: 0,
-        weights,
+        weights: weights_of(shape, slot),
     }
 }
 

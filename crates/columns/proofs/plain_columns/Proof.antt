@@ -1,81 +1,88 @@
-use mathlib.Core.Path.{refl, sym, ap, _∙_}
-use mathlib.Core.List.{List}
-use Prim.Native.Nat.{ℕ, _-_, _≤_}
+use borrow.Author.Needs.{needs}
+use mathlib.Core.Path.{_≡_, sym, ap, _∙_}
+use Prim.Native.Nat.{_+_, _*_, _-_, _≤_}
 use native.Mathlib.Omega.{arith}
-use lib.ListN.{length, take}
-use Rattle.algebra.specs.Sequence.{column}
-use Rattle.algebra.proofs.Filling.{Filled, filled-none, filled-more, filled-all}
-use Rattle.field.specs.Polynomial.{dotted}
-use Rattle.columns.proofs.Columns.{length-column}
-use Rattle.weights.proofs.Sixteen.{length-sixteen, take-sixteen}
+use lib.ListN.{length}
+use Rattle.algebra.specs.Sequence.{at, tabulate}
+use Rattle.algebra.proofs.Tabulate.{length-table}
+use Rattle.algebra.proofs.Strides.{row-step}
+use Rattle.field.specs.Field.{plus, times}
+use Rattle.columns.proofs.Columns.{sum-of, sums-none, sums-more, sums-all}
 use Rattle.columns.proofs.plain_columns.Statement.{statement}
 use Rattle.columns.proofs.plain_columns.Tie as tie
 
--- column i's sum
-abbrev sum-at : (field : ℕ) → (weights : List ℕ) → (r l : ℕ) → (strips : List ℕ) → ℕ → ℕ
-sum-at f ws r l xs i = dotted f (take r ws) (column r l i xs)
-
 abbrev Inv-loop : tie.InvT-loop
-Inv-loop field weights r strips output₀ powers logs l i₀ output i =
-    (i ≤ l) × Filled (sum-at field weights r (length output₀) strips) i output₀ output
+Inv-loop field weights r strips output₀ l j₀ output j = (j ≤ r) × (output ≡ tabulate (sum-of field weights r l strips j) l)
 
 abbrev μ-loop : tie.MeasureT-loop
-μ-loop field weights r strips output₀ powers logs l i₀ output i = l - i
+μ-loop field weights r strips output₀ l j₀ output j = r - j
+
+clear-requires : tie.Need-clear-requires Inv-loop μ-loop
+clear-requires c κs = search needs
 
 loop-holds : tie.Need-loop-holds Inv-loop μ-loop
 loop-holds c =
-    let a = c .before .before .args in
-    (omega arith, filled-none (sum-at (a .field) (a .weights .now) (a .r) (length (a .output .now)) (a .strips .now)) (a .output .now))
+    let s = c .before .before .before .before .before .before in
+    let a = s .args in
+    (omega arith, c .before .before .clear .ensures ∙ sums-none (a .field) (a .weights .now) (a .r) (length (a .output .now)) (a .strips .now))
 
-column-of-requires : tie.Need-column-of-requires Inv-loop μ-loop
-column-of-requires c κs =
-    let s = c .before .before .before .before in
-    (s .pre .2, c .loop-test .taken, s .pre .4, s .pre .5)
+element-copy-out-add-strip : tie.Need-element-copy-out-add-strip Inv-loop μ-loop
+element-copy-out-add-strip c = omega (arith, c .before .before .before .before .before .before .before .before .pre .0)
 
-slice-aggregate-dot : tie.Need-slice-aggregate-dot Inv-loop μ-loop
-slice-aggregate-dot c =
+-- the output keeps its length
+size-kept : (c : tie.At-loop Inv-loop μ-loop) → length (c .loop .output) ≡ length (c .before .before .before .before .before .before .before .args .output .now)
+size-kept c =
     let a = c .before .before .before .before .before .before .before .args in
-    sym (ap (λ l. length l) (c .before .before .column-of .ensures) ∙ length-sixteen (column (a .r) (length (a .output .now)) (c .before .before .before .before .loop .i) (a .strips .now)))
+    length-table (sum-of (a .field) (a .weights .now) (a .r) (length (a .output .now)) (a .strips .now) (c .loop .j)) (length (a .output .now)) (c .loop .output) (c .loop .inv .1)
 
-dot-requires : tie.Need-dot-requires Inv-loop μ-loop
-dot-requires c κs =
-    let s = c .before .before .before .before .before .before .before in
-    let a = s .args in (
-      s .pre .0,
-      s .pre .1,
-      s .pre .3,
-      omega (arith, s .pre .2, ap (λ l. length l) (c .before .before .column-of .ensures), length-sixteen (column (a .r) (length (a .output .now)) (c .before .before .before .before .loop .i) (a .strips .now))),
-    )
+-- strip j ends within the strips
+strip-within : (c : tie.In-loop Inv-loop μ-loop) → let a = c .before .before .before .before .before .before .before .before .args in
+    (c .before .loop .j) * length (a .output .now) + length (a .output .now) ≤ a .r * length (a .output .now)
+strip-within c =
+    let a = c .before .before .before .before .before .before .before .before .args in
+    row-step (c .before .loop .j) (a .r) (length (a .output .now)) (omega arith)
 
-slice-write-output : tie.Need-slice-write-output Inv-loop μ-loop
-slice-write-output c = omega (arith, c .before .before .before .before .before .loop .inv .1 .size)
+mul-add-strip : tie.Need-mul-add-strip Inv-loop μ-loop
+mul-add-strip c =
+    omega (arith, strip-within (c .before), c .before .before .before .before .before .before .before .before .before .pre .3)
 
-add-i : tie.Need-add-i Inv-loop μ-loop
-add-i c = let s = c .before .before .before .before .before .before .before .before in omega (arith, s .pre .4)
+add-strip-requires : tie.Need-add-strip-requires Inv-loop μ-loop
+add-strip-requires c κs =
+    let s = c .before .before .before .before .before .before .before .before .before .before in
+    omega (arith, strip-within (c .before .before), s .pre .3, size-kept (c .before .before .before))
+
+add-j : tie.Need-add-j Inv-loop μ-loop
+add-j c =
+    let s = c .before .before .before .before .before .before .before .before .before .before .before .before .before in
+    omega (arith, s .pre .0)
 
 loop-less : tie.Need-loop-less Inv-loop μ-loop
 loop-less c = omega arith
 
 loop-again : tie.Need-loop-again Inv-loop μ-loop
 loop-again c =
-    let s = c .before .before .before .before .before .before .before .before in
+    let s = c .before .before .before .before .before .before .before .before .before .before .before .before .before in
     let a = s .args in
-    let l = c .before .before .before .before .before .loop in
-    let col = column (a .r) (length (a .output .now)) (l .i) (a .strips .now) in
-    let e = ap (take (a .r)) (c .before .before .before .column-of .ensures) ∙ take-sixteen col (a .r) (length-column (a .r) (length (a .output .now)) (l .i) (a .strips .now)) (s .pre .2) in (
+    let l = c .before .before .before .before .before .before .loop in
+    let j = l .j in (
       omega arith,
-      filled-more (sum-at (a .field) (a .weights .now) (a .r) (length (a .output .now)) (a .strips .now)) (l .i) (c .dot .result) (a .output .now) (l .output)
-          (omega (arith, l .inv .1 .size)) (c .dot .ensures ∙ ap (dotted (a .field) (take (a .r) (a .weights .now))) e) (l .inv .1),
+      c .before .before .add-strip .ensures
+          ∙ ap (tabulate (λ i. plus (a .field) (at (l .output) i) (times (a .field) (at (a .weights .now) j) (at (a .strips .now) (j * length (a .output .now) + i))))) (size-kept (c .before .before .before .before .before .before))
+          ∙ sums-more (a .field) (a .weights .now) (a .r) (length (a .output .now)) (a .strips .now) j (omega arith) (s .pre .1) (l .output) (l .inv .1),
     )
 
 same-length : tie.Need-same-length Inv-loop μ-loop
-same-length c = c .before .loop .inv .1 .size
+same-length c = size-kept (c .before)
 
 returns : tie.Need-returns Inv-loop μ-loop
 returns c =
-    let a = c .before .before .before .before .args in
+    let s = c .before .before .before .before .before .before .before .before in
+    let a = s .args in
     let l = c .before .loop in
-    filled-all (sum-at (a .field) (a .weights .now) (a .r) (length (a .output .now)) (a .strips .now)) (l .i) (length (a .output .now)) (a .output .now) (l .output) (omega arith) refl (l .inv .1)
+    let e : l .j ≡ a .r = omega arith in
+    l .inv .1
+    ∙ ap (λ j. tabulate (sum-of (a .field) (a .weights .now) (a .r) (length (a .output .now)) (a .strips .now) j) (length (a .output .now))) e
+    ∙ sums-all (a .field) (a .weights .now) (a .r) (length (a .output .now)) (a .strips .now) (s .pre .1)
 
 pub plain-columns-spec : {M : Type 1} → statement M
 plain-columns-spec =
@@ -83,12 +90,12 @@ plain-columns-spec =
     (tie.spec
     Inv-loop
     μ-loop
+    clear-requires
     loop-holds
-    column-of-requires
-    slice-aggregate-dot
-    dot-requires
-    slice-write-output
-    add-i
+    element-copy-out-add-strip
+    mul-add-strip
+    add-strip-requires
+    add-j
     loop-less
     loop-again
     same-length

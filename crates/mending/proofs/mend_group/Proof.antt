@@ -59,7 +59,7 @@ slot-at-requires : tie.Need-slot-at-requires
 slot-at-requires c κs = let s = c .before .before .before .before .before .before .before in (s .pre .2 .placed, s .pre .3, member-within c .0)
 
 weights-of-requires : tie.Need-weights-of-requires
-weights-of-requires c κs = let s = c .before .before .before .before .before .before .before .before in (s .pre .0, s .pre .1, s .pre .2, slot-within c)
+weights-of-requires c κs = let s = c .before .before .before .before .before .before .before .before in (s .pre .2, slot-within c)
 
 mates-of-requires : tie.Need-mates-of-requires
 mates-of-requires c κs =

@@ -96,8 +96,8 @@ returns-2 c =
 order-requires : tie.Need-order-requires
 order-requires c κs = search needs
 
-all-below-requires : tie.Need-all-below-requires
-all-below-requires c κs = search needs
+strips-below-requires : tie.Need-strips-below-requires
+strips-below-requires c κs = search needs
 
 ask-requires-5 : tie.Need-ask-requires-5
 ask-requires-5 c κs = search needs
@@ -108,7 +108,7 @@ returns-3 c =
     let b = d .before .before .before .before .before in
     let a = b .before .before .before .args in
     c .ask5 .ensures
-    ∙ ap (λ t. or-ask (d .ask4 .result) (ask t 6 0)) (c .before .all-below .ensures ∙ ap (λ m. all-below m (a .strips .now)) (c .before .before .order .ensures .0))
+    ∙ ap (λ t. or-ask (d .ask4 .result) (ask t 6 0)) (c .before .strips-below .ensures ∙ ap (λ m. all-below m (a .strips .now)) (c .before .before .order .ensures .0))
     ∙ after-slot (a .refusal) (a .shape) (a .slot) (a .l) (a .strips .now) (b .ask2 .result) (d .ask4 .result) (length-asked b) (slot-asked d)
 
 pub mates-refusal-spec : {M : Type 1} → statement M
@@ -124,6 +124,6 @@ mates-refusal-spec =
     ask-requires-4
     returns-2
     order-requires
-    all-below-requires
+    strips-below-requires
     ask-requires-5
     returns-3)

@@ -22,12 +22,6 @@ returns c =
     let a = c .before .before .before .before .args in
     fills-no (mates-refusal (a .refusal) (a .shape) (a .slot) (length (a .output .now)) (a .strips .now)) _ _ _ _ (c .before .mates-refusal .ensures) (c .if1 .taken) refl
 
-power-table-requires : tie.Need-power-table-requires
-power-table-requires c κs = search needs
-
-log-table-requires : tie.Need-log-table-requires
-log-table-requires c κs = search needs
-
 -- no question was answered no
 zero : (c : tie.Else1) → let a = c .before .before .before .before .args in mates-refusal (a .refusal) (a .shape) (a .slot) (length (a .output .now)) (a .strips .now) ≡ 0
 zero c = sym (c .before .mates-refusal .ensures) ∙ c .if1 .left
@@ -39,27 +33,19 @@ mending : (c : tie.Else1) → Mending (c .before .before .before .before .args .
 mending c = c .before .before .before .before .pre (passed c .accepted)
 
 weights-of-requires : tie.Need-weights-of-requires
-weights-of-requires c κs =
-    let M = passed (c .before .before .before .before) in
-    (c .before .before .before .power-table .ensures, c .before .before .log-table .ensures, mending (c .before .before .before .before), M .slot-below)
+weights-of-requires c κs = (mending c, passed c .slot-below)
 
 cast-rebuild-columns : tie.Need-cast-rebuild-columns
 cast-rebuild-columns c = search needs
 
 rebuild-columns-requires : tie.Need-rebuild-columns-requires
 rebuild-columns-requires c κs =
-    let t = c .before .before .before .before .before .before .before .before .before .before in
+    let t = c .before .before .before .before in
     let a = t .before .before .before .before .args in
     let M = passed t in
-    let w = c .before .before .before .before .before .weights-of .ensures in
-    let r = r-most (a .shape) (mending t .placed) in (
-      c .before .before .before .before .before .before .before .before .before .power-table .ensures,
-      c .before .before .before .before .before .before .before .before .log-table .ensures,
-      r,
-      omega (arith, ap (λ l. length l) w, length-sixteen (weights (a .shape) (a .slot))),
-      M .l-most,
-      M .length-is,
-    )
+    let w = c .before .before .before .weights-of .ensures in
+    let r = r-most (a .shape) (mending t .placed) in
+    (r, omega (arith, ap (λ l. length l) w, length-sixteen (weights (a .shape) (a .slot))), M .l-most, M .length-is)
 
 same-length : tie.Need-same-length
 same-length c = search needs
@@ -67,12 +53,11 @@ same-length c = search needs
 returns-2 : tie.Need-returns-2
 unfolding Rebuild-says
 returns-2 c =
-    let t = c .before .before .before .before .before .before .before .before .before .before .before .before .before in
+    let t = c .before .before .before .before .before .before .before in
     let a = t .before .before .before .before .args in
-    let M = passed t in
-    let w = c .before .before .before .before .before .before .before .before .weights-of in
+    let w = c .before .before .before .before .before .before .weights-of in
     fills-yes (mates-refusal (a .refusal) (a .shape) (a .slot) (length (a .output .now)) (a .strips .now)) _ _ _ _ (zero t) refl
-    (c .before .before .rebuild-columns .ensures ∙ strip-is (a .shape) (mending t) (a .slot) (M .slot-below) (length (a .output .now)) (w .result) (a .strips .now) (w .ensures))
+    (c .before .before .rebuild-columns .ensures ∙ strip-is (a .shape) (mending t) (a .slot) (passed t .slot-below) (length (a .output .now)) (w .result) (a .strips .now) (w .ensures))
 
 pub rebuild-with-spec : {M : Type 1} → statement M
 rebuild-with-spec =
@@ -80,8 +65,6 @@ rebuild-with-spec =
     (tie.spec
     mates-refusal-requires
     returns
-    power-table-requires
-    log-table-requires
     weights-of-requires
     cast-rebuild-columns
     rebuild-columns-requires

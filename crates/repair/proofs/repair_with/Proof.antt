@@ -23,12 +23,6 @@ returns c =
     let e = c .before .mates-refusal .ensures in
     answers-no (mates-refusal (a .refusal) (a .shape) (a .slot) 1 (a .mates .now)) _ _ e (c .if1 .taken) refl
 
-power-table-requires : tie.Need-power-table-requires
-power-table-requires c κs = search needs
-
-log-table-requires : tie.Need-log-table-requires
-log-table-requires c κs = search needs
-
 -- no question was answered no
 zero : (c : tie.Else1) → let a = c .before .before .before .args in mates-refusal (a .refusal) (a .shape) (a .slot) 1 (a .mates .now) ≡ 0
 zero c = sym (c .before .mates-refusal .ensures) ∙ c .if1 .left
@@ -40,41 +34,31 @@ mending : (c : tie.Else1) → Mending (c .before .before .before .args .shape)
 mending c = c .before .before .before .pre (passed c .accepted)
 
 weights-of-requires : tie.Need-weights-of-requires
-weights-of-requires c κs =
-    let M = passed (c .before .before .before .before) in
-    (c .before .before .before .power-table .ensures, c .before .before .log-table .ensures, mending (c .before .before .before .before), M .slot-below)
+weights-of-requires c κs = (mending c, passed c .slot-below)
 
-slice-aggregate-dot : tie.Need-slice-aggregate-dot
-slice-aggregate-dot c = search needs
+cast-rebuild-column : tie.Need-cast-rebuild-column
+cast-rebuild-column c = search needs
 
-cast-dot : tie.Need-cast-dot
-cast-dot c = search needs
-
-dot-requires : tie.Need-dot-requires
-dot-requires c κs =
-    let t = c .before .before .before .before .before .before .before .before .before in
+rebuild-column-requires : tie.Need-rebuild-column-requires
+rebuild-column-requires c κs =
+    let t = c .before .before .before in
     let a = t .before .before .before .args in
-    let M = passed t in
-    let w = c .before .before .before .before .weights-of .ensures in
-    let r = r-most (a .shape) (mending t .placed) in (
-      c .before .before .before .before .before .before .before .before .power-table .ensures,
-      c .before .before .before .before .before .before .before .log-table .ensures,
-      omega (arith, ap (λ l. length l) w, length-sixteen (weights (a .shape) (a .slot))),
-      omega (arith, M .length-is),
-    )
+    let w = c .before .before .weights-of .ensures in
+    let r = r-most (a .shape) (mending t .placed) in
+    (omega (arith, ap (λ l. length l) w, length-sixteen (weights (a .shape) (a .slot))), omega (arith, passed t .length-is))
 
-cast-t21 : tie.Need-cast-t21
-cast-t21 c = search needs
+cast-t12 : tie.Need-cast-t12
+cast-t12 c = search needs
 
 returns-2 : tie.Need-returns-2
 unfolding Repair-says
 returns-2 c =
-    let t = c .before .before .before .before .before .before .before .before .before .before in
+    let t = c .before .before .before .before in
     let a = t .before .before .before .args in
     let M = passed t in
-    let w = c .before .before .before .before .before .weights-of .ensures in
+    let w = c .before .before .before .weights-of in
     answers-yes (mates-refusal (a .refusal) (a .shape) (a .slot) 1 (a .mates .now)) _ _ (zero t) refl
-    (c .dot .ensures ∙ dotted-repaired (a .shape) (mending t) (a .slot) (M .slot-below) (c .before .before .before .before .before .weights-of .result) (a .mates .now) w (omega (arith, M .length-is)))
+    (c .rebuild-column .ensures ∙ dotted-repaired (a .shape) (mending t) (a .slot) (M .slot-below) (w .result) (a .mates .now) (w .ensures) (omega (arith, M .length-is)))
 
 pub repair-with-spec : {M : Type 1} → statement M
 repair-with-spec =
@@ -82,11 +66,8 @@ repair-with-spec =
     (tie.spec
     mates-refusal-requires
     returns
-    power-table-requires
-    log-table-requires
     weights-of-requires
-    slice-aggregate-dot
-    cast-dot
-    dot-requires
-    cast-t21
+    cast-rebuild-column
+    rebuild-column-requires
+    cast-t12
     returns-2)

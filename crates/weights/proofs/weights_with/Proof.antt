@@ -22,26 +22,19 @@ returns c =
     let e = refusal (c .before) in
     record { refusal = e; weights = rw (ne-eqb (weights-refusal (a .refusal) (a .shape) (a .slot)) 0 (λ z. c .if1 .taken (e ∙ z))) refl }
 
-power-table-requires : tie.Need-power-table-requires
-power-table-requires c κs = search needs
-
-log-table-requires : tie.Need-log-table-requires
-log-table-requires c κs = search needs
-
 zero : (c : tie.Else1) → let a = c .before .before .before .args in weights-refusal (a .refusal) (a .shape) (a .slot) ≡ 0
 zero c = sym (refusal (c .before)) ∙ c .if1 .left
 
 weights-of-requires : tie.Need-weights-of-requires
 weights-of-requires c κs =
-    let t = c .before .before .before .before in
-    let s = t .before .before .before in
+    let s = c .before .before .before in
     let a = s .args in
-    let w = weights-passed (a .refusal) (a .shape) (a .slot) (zero t) in
-    (c .before .before .before .power-table .ensures, c .before .before .log-table .ensures, s .pre (w .0), w .1)
+    let w = weights-passed (a .refusal) (a .shape) (a .slot) (zero c) in
+    (s .pre (w .0), w .1)
 
 returns-2 : tie.Need-returns-2
 returns-2 c =
-    let t = c .before .before .before .before .before in
+    let t = c .before in
     let a = t .before .before .before .args in
     record { refusal = sym (zero t); weights = rw (eq-eqb (weights-refusal (a .refusal) (a .shape) (a .slot)) 0 (zero t)) (c .weights-of .ensures) }
 
@@ -51,7 +44,5 @@ weights-with-spec =
     (tie.spec
     ask-requires
     returns
-    power-table-requires
-    log-table-requires
     weights-of-requires
     returns-2)
