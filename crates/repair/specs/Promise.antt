@@ -3,6 +3,8 @@
 --   Repair-holds        repair answers the value, at the slot's point, of the one polynomial of degree below r through the mates
 --   Repair-restores     from a codeword's symbols at the mates repair answers the codeword's symbol, whatever became of the other groups
 --   Rebuild-restores    each symbol that strip rebuild restores from such mates is the codeword's, whatever the other columns hold
+--   Rebuild-weighs      strip rebuild writes the sums of weight times mate, column by column, with the weights that the weights call answers
+--   Rebuild-repairs     each symbol that strip rebuild writes is what repair answers of its column
 --   Promises            all of them
 use mathlib.Core.Path.{_≡_}
 use mathlib.Core.Bool.{true}
@@ -11,7 +13,7 @@ use Prim.Native.Nat.{ℕ, _*_, _≤_, _<_}
 use lib.ListN.{length}
 use Rattle.algebra.specs.Sequence.{at, all-below, column}
 use Rattle.field.specs.Field.{q}
-use Rattle.field.specs.Polynomial.{poly}
+use Rattle.field.specs.Polynomial.{poly, weighed}
 use Rattle.code.specs.Shape.{point, mates}
 use Rattle.code.specs.Codeword.{encoded}
 use Rattle.code.specs.Repair.{symbols-of}
@@ -19,6 +21,8 @@ use Rattle.code.specs.Laws.{Family, Mending}
 use Rattle.code.specs.Promise.{Message, Interpolates}
 use Rattle.code.specs.declared.Shape.{Shape}
 use Rattle.code.specs.declared.Answer.{Answer}
+use Rattle.weights.specs.Weights.{Weights-say}
+use Rattle.weights.specs.declared.RepairWeights.{RepairWeights}
 use Rattle.repair.specs.Mates.{Repair-says, Rebuild-says}
 
 -- the answer is the value of the one polynomial through the mates
@@ -47,7 +51,22 @@ Rebuild-restores =
     × ((xs : List ℕ) (i : ℕ) → Message s xs → i < length a → column (s .r) (length a) i strips ≡ symbols-of (encoded s xs) (mates s p)
     → at z i ≡ at (encoded s xs) p)
 
+-- whatever the code's numbers and the strips are, where rebuild answers 0
+unfoldable pub Rebuild-weighs : Type 0
+Rebuild-weighs =
+    (n : ℕ) (s : Shape) (p : ℕ) (strips : List ℕ) (w : RepairWeights) (x : ℕ) (a z : List ℕ) → (n ≡ 0 → Mending s)
+    → Weights-say n s p w → Rebuild-says n s p strips x a z → x ≡ 0
+    → (w .refusal ≡ 0) × (z ≡ weighed (s .field) (w .weights) (s .r) (length a) strips)
+
+unfoldable pub Rebuild-repairs : Type 0
+Rebuild-repairs =
+    (n : ℕ) (s : Shape) (p : ℕ) (strips : List ℕ) (x : ℕ) (a z : List ℕ) (i : ℕ) (y : Answer) → (n ≡ 0 → Mending s)
+    → Rebuild-says n s p strips x a z → x ≡ 0 → i < length a → Repair-says n s p (column (s .r) (length a) i strips) y
+    → (y .refusal ≡ 0) × (at z i ≡ y .value)
+
 pub record Promises : Type 0 where
   pub repair-holds : Repair-holds
   pub repair-restores : Repair-restores
   pub rebuild-restores : Rebuild-restores
+  pub rebuild-weighs : Rebuild-weighs
+  pub rebuild-repairs : Rebuild-repairs

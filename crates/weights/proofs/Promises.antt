@@ -1,24 +1,20 @@
 -- The statement of specs/Promise.antt is proved. Assumes nothing.
 --   promises                    it
 use mathlib.Core.Path.{refl, ap, _∙_}
-use mathlib.Core.Bool.{cond}
-use mathlib.Core.List.{[], map}
+use mathlib.Core.List.{map}
 use Prim.Native.Nat.{ℕ, _≤_, _<_}
 use native.Mathlib.Omega.{arith}
-use borrow.Author.Tests.{eq-eqb}
 use Rattle.algebra.specs.Sequence.{In}
 use Rattle.field.specs.Polynomial.{poly, dotted}
 use Rattle.code.specs.declared.Shape.{Shape}
 use Rattle.code.specs.Shape.{point, others, mates}
-use Rattle.code.specs.Repair.{weights}
 use Rattle.code.specs.Laws.{Mending}
 use Rattle.code.specs.Promise.{Weights-law}
 use Rattle.code.proofs.Places.{n-room, whole-room}
 use Rattle.code.proofs.Others.{other-is}
 use Rattle.code.proofs.Weights.{weights-law}
-use Rattle.weights.specs.Weights.{sixteen, weights-refusal}
 use Rattle.weights.specs.Promise.{Weights-hold, Promises}
-use Rattle.weights.proofs.Weighing.{take-weights}
+use Rattle.weights.proofs.Weighing.{take-weights, weights-answered}
 use Rattle.weights.proofs.Refusals.{weights-accepted}
 
 -- in a whole group no place is behind the slots
@@ -31,7 +27,7 @@ pub weights-hold : Weights-hold
 unfolding Weights-hold Weights-law
 weights-hold s p x M h says =
     let z = weights-accepted 0 s p refl h in
-    let w = says .weights ∙ ap (λ b. sixteen (cond b (weights s p) [])) (eq-eqb (weights-refusal 0 s p) 0 z) in (
+    let w = weights-answered 0 s p x z says in (
       says .refusal ∙ z,
       λ cs l b.
           ap (λ ws. dotted (s .field) ws (map (λ m. poly (s .field) cs (point s m)) (mates s p))) (take-weights s M p h (x .weights) w)

@@ -2,10 +2,13 @@
 --   mate-point                       the point of mate i, by the slot's group and member
 --   length-weights, at-weights       weight i is minus the point of mate i by the slot's
 --   take-weights, dotted-repaired    the weights, and a repaired symbol, by the array of weights
+--   weights-answered                 the array that the call answers where it refuses nothing
 use mathlib.Core.Path.{_≡_, sym, ap, ap₂, _∙_}
-use mathlib.Core.List.{List}
+use mathlib.Core.Bool.{cond}
+use mathlib.Core.List.{List, []}
 use Prim.Native.Nat.{ℕ, _<_}
 use native.Mathlib.Omega.{arith}
+use borrow.Author.Tests.{eq-eqb}
 use lib.ListN.{length, take, length-map}
 use lib.Seq.{take-all}
 use Rattle.algebra.specs.Sequence.{at}
@@ -23,7 +26,8 @@ use Rattle.code.proofs.Mates.{mates-number}
 use Rattle.code.proofs.Parity.{weights-are}
 use Rattle.layout.specs.Step.{mate-member}
 use Rattle.layout.proofs.Numbers.{mate-size, mate-is}
-use Rattle.weights.specs.Weights.{sixteen}
+use Rattle.weights.specs.Weights.{sixteen, weights-refusal, Weights-say}
+use Rattle.weights.specs.declared.RepairWeights.{RepairWeights}
 use Rattle.weights.proofs.Sixteen.{take-sixteen}
 
 module _ (s : Shape) (M : Mending s) (p : ℕ) (h : p < s .n) where
@@ -62,3 +66,6 @@ module _ (s : Shape) (M : Mending s) (p : ℕ) (h : p < s .n) where
   pub dotted-repaired : (ws xs : List ℕ) → ws ≡ sixteen (weights s p) → length xs ≡ s .r → dotted (s .field) (take (s .r) ws) (take (s .r) xs) ≡ repaired s p xs
   unfolding repaired restored weights
   dotted-repaired ws xs w l = ap₂ (dotted (s .field)) (take-weights ws w) (take-all (s .r) xs (omega arith))
+
+pub weights-answered : (n : ℕ) (s : Shape) (p : ℕ) (x : RepairWeights) → weights-refusal n s p ≡ 0 → Weights-say n s p x → x .weights ≡ sixteen (weights s p)
+weights-answered n s p x e says = says .weights ∙ ap (λ b. sixteen (cond b (weights s p) [])) (eq-eqb (weights-refusal n s p) 0 e)
