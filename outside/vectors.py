@@ -3,7 +3,9 @@
     python3 outside/vectors.py SEED COUNT [NAME..] > FILE     COUNT calls of each function but those named, on standard output
 
 The calls are valid, damaged and refused, with one fault or with several at once, over both fields
-and the corner codes. A table of how often each answer came goes to standard error.
+and the corner codes. Besides come good rebuilds of every locality r of both fields at every length
+where the strip kernel takes another way, unless "lengths" is among the names. A table of how often
+each answer came goes to standard error.
 
 Format: a row of records and then the number 0. Every number is 32 bits, high byte first.
 
@@ -84,6 +86,9 @@ CORNERS = [
     Code(1, 4, 10, 3),
 ]
 LARGE = [code for code in CORNERS if code.n == 255]
+# the localities of both fields, and the lengths of strips about the edges of the kernel's tiles
+LOCALITIES = [(0, r) for r in (1, 2, 3, 5, 11)] + [(1, r) for r in (2, 4, 14, 16)]
+LENGTHS = (1, 2, 15, 16, 17, 63, 64, 65, 127, 128, 129, 191, 192, 193, 255, 256, 257, 4095, 4096)
 LARGEST = 2**32 - 1
 LONGEST = 65600  # bytes of a buffer
 TAILS = (1, 3, 4, 5)  # bytes after the longest sheet; the report reads the first four
@@ -245,7 +250,8 @@ def single_groups(code, marks):
 class Draft:
     """A call that passes its questions, before faults are put in."""
 
-    def __init__(self, rng, name, code):
+    def __init__(self, rng, name, code, columns=0):
+        self.columns = columns
         self.rng, self.name, self.code, self.base = rng, name, code, code
         self.slot = rng.randrange(code.n) if name in ("weights", "repair", "rebuild", "view") else 0
         self.word, self.marks = (bytearray(), bytearray())
@@ -265,7 +271,7 @@ class Draft:
         if kind == "mates":
             return Buffer(symbols(rng, code, code.r))
         if kind == "strips":
-            self.columns = pick_columns(rng, code)
+            self.columns = self.columns or pick_columns(rng, code)
             return Buffer(symbols(rng, code, code.r * self.columns))
         if kind in ("word", "marks") and self.name != "read_sheet":
             return Buffer(getattr(self, kind))
@@ -281,7 +287,7 @@ class Draft:
             "message": code.k,
             "codeword": code.n,
             "weights": 16,
-            "strip": getattr(self, "columns", 0),
+            "strip": self.columns,
             "work": rng.choice([used] * 20 + [used + rng.randint(1, 40)] * 19 + [61455]),
             "record": 36,
             "word": rng.choice([255, 255, 256, 300]),
@@ -526,6 +532,15 @@ def make_call(rng, name, index):
     return draft.finished()
 
 
+def rebuilds(rng):
+    """Good rebuilds: of every locality, one at each length, of any slot."""
+    for field, r in LOCALITIES:
+        for columns in LENGTHS:
+            n = (r + 1) * rng.randint(1, (ref.order(field) - 1) // (r + 1))
+            code = Code(field, r, n, rng.randint(1, r * n // (r + 1)))
+            yield Draft(rng, "rebuild", code, columns).finished()
+
+
 def main():
     seed, count, left_out = sys.argv[1], int(sys.argv[2]), sys.argv[3:]
     names = [name for name in CALLS if name not in left_out]
@@ -535,6 +550,9 @@ def main():
             data, number = make_call(rng, name, index)
             out.write(data)
             seen[name, number] += 1
+    for data, number in rebuilds(rng) if "lengths" not in left_out else ():
+        out.write(data)
+        seen["rebuild", number] += 1
     out.write(numbers(0))
     out.flush()
     for name in names:
