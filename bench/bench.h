@@ -6,15 +6,19 @@
 #include <stdint.h>
 
 /* the strip kernel and the calls, at each level */
-#define LEVEL(s)                                                                                                        \
-    _Bool rebuild_strips##s(const uint8_t *weights, size_t r, const uint8_t *strips, size_t strips_len, uint8_t *output,  \
-                            size_t output_len);                                                                        \
-    uint32_t latsefidy_rebuild##s(uint32_t field, uint32_t r, uint32_t n, uint32_t k, uint32_t slot,                     \
-                                  const uint8_t *strips, size_t strips_len, uint8_t *out, size_t out_len);              \
-    uint32_t latsefidy_encode##s(uint32_t field, uint32_t r, uint32_t n, uint32_t k, const uint8_t *message,             \
-                                 size_t message_len, uint8_t *codeword, size_t codeword_len);                          \
-    uint32_t latsefidy_decode##s(uint32_t field, uint32_t r, uint32_t n, uint32_t k, const uint8_t *word,                \
-                                 size_t word_len, const uint8_t *marks, size_t marks_len, uint8_t *message,             \
+#define LEVEL(s)                                                                                                            \
+    _Bool rebuild_strips##s(const uint8_t *weights, size_t r, const uint8_t *strips, size_t strips_len, uint8_t *output,    \
+                            size_t output_len);                                                                             \
+    uint32_t latsefidy_rebuild##s(uint32_t field, uint32_t r, uint32_t n, uint32_t k, uint32_t slot,                        \
+                                  const uint8_t *strips, size_t strips_len, uint8_t *out, size_t out_len);                  \
+    uint64_t latsefidy_repair##s(uint32_t field, uint32_t r, uint32_t n, uint32_t k, uint32_t slot, const uint8_t *mates,   \
+                                 size_t mates_len);                                                                         \
+    uint32_t latsefidy_weights##s(uint32_t field, uint32_t r, uint32_t n, uint32_t k, uint32_t slot, uint8_t *weights,      \
+                                  size_t weights_len);                                                                      \
+    uint32_t latsefidy_encode##s(uint32_t field, uint32_t r, uint32_t n, uint32_t k, const uint8_t *message,                \
+                                 size_t message_len, uint8_t *codeword, size_t codeword_len);                               \
+    uint32_t latsefidy_decode##s(uint32_t field, uint32_t r, uint32_t n, uint32_t k, const uint8_t *word,                   \
+                                 size_t word_len, const uint8_t *marks, size_t marks_len, uint8_t *message,                 \
                                  size_t message_len, uint8_t *work, size_t work_len);
 LEVEL()
 LEVEL(_v3)
@@ -48,6 +52,7 @@ int invert_kept(int r, int n, int k, const uint8_t *generator, const uint8_t *ma
 
 /* the tables */
 void rebuild(void);
+void by_length(void);
 void stripes(void);
 void strips(void);
 
