@@ -1,13 +1,15 @@
-"""Checks the reference: the paper's worked cases, and brute force over small codes of thirteen.
+"""Checks the reference: the paper's worked cases, brute force over small codes of thirteen, and which rebuilds vectors.py makes.
 
     python3 outside/selftest.py
 """
 
 import itertools
 import random
+import struct
 from pathlib import Path
 
 import reference as ref
+import vectors
 from reference import Code
 
 N = Code(0, 2, 9, 4)
@@ -238,6 +240,19 @@ def test_strips():
         out = bytearray(9)
         assert ref.rebuild(code, slot, strips, out) == 0
         assert out == bytes(w[slot] for w in words)
+
+
+def test_lengths():
+    """vectors.py makes good rebuilds of every locality of both fields at every length."""
+    seen = set()
+    for data, refusal in vectors.rebuilds(random.Random(1)):
+        _, _, field, r, _, _, _, _, strips, given = struct.unpack_from(">10I", data)
+        (columns,) = struct.unpack_from(">I", data, 40 + given)
+        assert refusal == 0 and strips == r * columns
+        seen.add((field, r, columns))
+    legal = [(f, r) for f in (0, 1) for r in range(40) if ref.code_refusal(Code(f, r, r + 1, 1)) == 0]
+    assert seen == {(f, r, columns) for f, r in legal for columns in vectors.LENGTHS}
+    assert {1, 63, 64, 65, 127, 128, 129, 255, 256, 257, 4096} <= set(vectors.LENGTHS)
 
 
 def test_order():
