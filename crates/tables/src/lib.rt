@@ -41,9 +41,9 @@ pub fn log_table() -> [u8; 256]
     LOGS_256
 }
 
-// The power e of 2, read from the field's table.
-pub fn generator_power(field: u32, e: u32) -> u8
-    requires { ⌜ e < q field - 1 ⌝ }
+// The power e of 2, where the table over bytes is lent: for loops, which take it once.
+pub fn power_at(field: u32, e: u32, powers: &[u8; 255]) -> u8
+    requires { ⌜ Powers 1 (now powers) × (e < q field - 1) ⌝ }
     ensures { λ r. ⌜ r ≡ power field γ e ⌝ }
 {
     let i = e as usize;
@@ -51,6 +51,14 @@ pub fn generator_power(field: u32, e: u32) -> u8
         let t = power_table_13();
         return t[i];
     }
-    let t = power_table();
-    t[i]
+    powers[i]
+}
+
+// The power e of 2.
+pub fn generator_power(field: u32, e: u32) -> u8
+    requires { ⌜ e < q field - 1 ⌝ }
+    ensures { λ r. ⌜ r ≡ power field γ e ⌝ }
+{
+    let powers = power_table();
+    power_at(field, e, &powers)
 }
