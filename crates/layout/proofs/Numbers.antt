@@ -4,8 +4,9 @@
 --   point-power-below            the exponent of a member's point is below q - 1
 --   worked-below, worked-point    the same, and the point, by a width that was worked out
 --   mate-size, mate-is, mate-slot    a mate by its member
+--   steps-round, steps-below         a mate by the steps from the slot's member on
 use mathlib.Core.Path.{_≡_, sym, ap, ap₂, _∙_}
-use mathlib.Core.Logic.{_≢_}
+use mathlib.Core.Logic.{_≢_, _⊎_, inl, inr}
 use mathlib.Core.Bool.{Bool, true, false, cond}
 use Prim.Native.Nat.{ℕ, suc, _+_, _*_, _-_, _/_, _%_, _<_}
 use native.Mathlib.Decide.{decLt}
@@ -22,7 +23,7 @@ use Rattle.code.proofs.Places.{slot-below, group-slot-at, member-slot-at}
 use Rattle.code.proofs.Bounds.{room-byte}
 use Rattle.code.proofs.Points.{exponent-below}
 use Rattle.code.proofs.Mates.{members-most, length-mates, mates-before, mates-after, mates-below}
-use Rattle.layout.specs.Step.{mate-member}
+use Rattle.layout.specs.Step.{mate-member, mate-steps}
 
 module _ (s : Shape) where
   pub wired-yes : s .wiring ≡ 1 → wired s ≡ true
@@ -56,6 +57,23 @@ module _ (s : Shape) where
 pub worked-point : (s : Shape) (j i w : ℕ) → w ≡ (q (s .field) - 1) / size s → power (s .field) γ (j + i * w) ≡ point-at s j i
 unfolding point-at
 worked-point s j i w e = ap (λ w. power (s .field) γ (j + i * w)) e
+
+module _ (t o i : ℕ) (h : o < t) where
+  pub steps-round : (mate-steps t o i + o ≡ mate-member o i) ⊎ (mate-steps t o i + o ≡ mate-member o i + t)
+  unfolding mate-steps mate-member
+  steps-round = go (decLt i o)
+    where
+      go : Dec (i < o) → (mate-steps t o i + o ≡ mate-member o i) ⊎ (mate-steps t o i + o ≡ mate-member o i + t)
+      go (yes a) = inr (rw (lt-ltb i o a) (omega arith))
+      go (no a) = inl (rw (le-ltb i o (omega arith)) (omega arith))
+
+  pub steps-below : suc i < t → mate-steps t o i < t
+  unfolding mate-steps
+  steps-below l = go (decLt i o)
+    where
+      go : Dec (i < o) → mate-steps t o i < t
+      go (yes a) = rw (lt-ltb i o a) (omega arith)
+      go (no a) = rw (le-ltb i o (omega arith)) (omega arith)
 
 module _ (s : Shape) (P : Placed s) where
   pub slot-byte : (j i : ℕ) → j < groups s → i < size s → slot-at s j i < 255

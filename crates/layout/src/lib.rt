@@ -3,12 +3,13 @@ ghost use mathlib.Core.Path.{_≡_};
 ghost use Prim.Native.Nat.{_+_, _*_, _-_, _/_, _≤_, _<_};
 ghost use lib.ListN.{length};
 ghost use Rattle.algebra.specs.Sequence.{at};
+ghost use Rattle.field.specs.Table.{Powers};
 ghost use Rattle.field.specs.Field.{q, γ, power};
 ghost use Rattle.code.specs.Question.{ask};
 ghost use Rattle.code.specs.Family.{single, n-fits, k-fits, code-refusal};
 ghost use Rattle.code.specs.Shape.{size, groups, missing, group, member, first, step, slot-at, point-at, point, mates};
 ghost use Rattle.code.specs.Laws.{Placed};
-ghost use Rattle.layout.specs.Step.{mate-member};
+ghost use Rattle.layout.specs.Step.{mate-member, mate-steps};
 use code::Code;
 use code::Shape;
 
@@ -161,12 +162,12 @@ pub fn width_of(shape: Shape) -> u32
     (tables::order(shape.field) - 1) / size_of(shape)
 }
 
-// The evaluation point of a member of a group, by that width: for loops, which work it out once.
-pub fn member_point(field: u32, width: u32, group: u32, member: u32) -> u8
-    requires { ⌜ group + member * width < q field - 1 ⌝ }
+// The evaluation point of a member of a group, by that width and the table over bytes: for loops, which take both once.
+pub fn member_point(field: u32, width: u32, group: u32, member: u32, powers: &[u8; 255]) -> u8
+    requires { ⌜ Powers 1 (now powers) × (group + member * width < q field - 1) ⌝ }
     ensures { λ x. ⌜ x ≡ power field γ (group + member * width) ⌝ }
 {
-    tables::generator_power(field, group + member * width)
+    tables::power_at(field, group + member * width, powers)
 }
 
 // The evaluation point of a member of a group.
@@ -174,7 +175,8 @@ pub fn point_at(shape: Shape, group: u32, member: u32) -> u8
     requires { ⌜ Placed shape × (group < groups shape) × (member < size shape) ⌝ }
     ensures { λ x. ⌜ x ≡ point-at shape group member ⌝ }
 {
-    member_point(shape.field, width_of(shape), group, member)
+    let powers = tables::power_table();
+    member_point(shape.field, width_of(shape), group, member, &powers)
 }
 
 // The evaluation point of a slot.
@@ -194,6 +196,17 @@ pub fn mate_member(member: u32, i: u32) -> u32
         return i;
     }
     i + 1
+}
+
+// How many members it is from member on to its mate i, round a group of that size.
+pub fn mate_steps(size: u32, member: u32, i: u32) -> u32
+    requires { ⌜ (member < size) × (i < 255) × (size ≤ 255) ⌝ }
+    ensures { λ x. ⌜ x ≡ mate-steps size member i ⌝ }
+{
+    if i >= member {
+        return i + 1 - member;
+    }
+    size - member + i
 }
 
 // The slot of mate i.

@@ -4,18 +4,18 @@ use borrow.Author.Needs.{needs}
 use Rattle.layout.proofs.member_point.Statement.{statement}
 use Rattle.layout.proofs.member_point.Tie as tie
 
-mul-generator-power : tie.Need-mul-generator-power
-mul-generator-power c = omega (arith, c .pre, q-most (c .args .field))
+mul-power-at : tie.Need-mul-power-at
+mul-power-at c = omega (arith, c .pre .1, q-most (c .args .field))
 
-add-generator-power : tie.Need-add-generator-power
-add-generator-power c = omega (arith, c .pre, q-most (c .args .field))
+add-power-at : tie.Need-add-power-at
+add-power-at c = omega (arith, c .pre .1, q-most (c .args .field))
 
-generator-power-requires : tie.Need-generator-power-requires
-generator-power-requires c κs = search needs
+power-at-requires : tie.Need-power-at-requires
+power-at-requires c κs = search needs
 
 returns : tie.Need-returns
 returns c = search needs
 
 pub member-point-spec : {M : Type 1} → statement M
 member-point-spec =
-    tie.close (tie.spec mul-generator-power add-generator-power generator-power-requires returns)
+    tie.close (tie.spec mul-power-at add-power-at power-at-requires returns)
