@@ -7,3 +7,4 @@ pub mod Elem
 pub mod Elements
 pub mod Operations
 pub mod Products
+pub mod Quotients

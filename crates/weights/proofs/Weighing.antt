@@ -1,34 +1,43 @@
 -- Repair weights as they are worked out. Assumes nothing.
+--   size-is                          a group has r + 1 members
 --   mate-point                       the point of mate i, by the slot's group and member
 --   length-weights, at-weights       weight i is minus the point of mate i by the slot's
+--   turned-weight                    and minus the point of group 0, as many members on as the mate is from the slot
 --   take-weights, dotted-repaired    the weights, and a repaired symbol, by the array of weights
 --   weights-answered                 the array that the call answers where it refuses nothing
 use mathlib.Core.Path.{_≡_, sym, ap, ap₂, _∙_}
+use mathlib.Core.Logic.{_⊎_, inl, inr, ⊎-elim}
 use mathlib.Core.Bool.{cond}
 use mathlib.Core.List.{List, []}
-use Prim.Native.Nat.{ℕ, _<_}
+use Prim.Native.Nat.{ℕ, _+_, _*_, _-_, _/_, _<_}
+use native.Mathlib.Nat.{add-mul, mul-comm, div-add-mod'}
 use native.Mathlib.Omega.{arith}
 use borrow.Author.Tests.{eq-eqb}
 use lib.ListN.{length, take, length-map}
 use lib.Seq.{take-all}
 use Rattle.algebra.specs.Sequence.{at}
 use Rattle.algebra.proofs.At.{at-map}
-use Rattle.field.specs.Field.{minus, times, inverse}
+use Rattle.field.specs.Field.{q, γ, minus, times, power, inverse}
 use Rattle.field.specs.Polynomial.{dotted}
+use Rattle.field.proofs.Quotients.{power-quotient}
 use Rattle.code.specs.declared.Shape.{Shape}
-use Rattle.code.specs.Shape.{group, member, point-at, point, others, mates}
+use Rattle.code.specs.Shape.{size, group, member, point-at, point, others, mates}
 use Rattle.code.specs.Repair.{weight-over, weights-over, weights, restored, repaired}
 use Rattle.code.specs.Laws.{Placed, Mending}
 use Rattle.code.specs.Promise.{Weights-are}
-use Rattle.code.proofs.Places.{n-room, group-below, group-slot-at, member-slot-at}
+use Rattle.code.proofs.Places.{n-room, group-below, member-below, group-slot-at, member-slot-at}
 use Rattle.code.proofs.Bounds.{r-most}
 use Rattle.code.proofs.Mates.{mates-number}
 use Rattle.code.proofs.Parity.{weights-are}
-use Rattle.layout.specs.Step.{mate-member}
-use Rattle.layout.proofs.Numbers.{mate-size, mate-is}
+use Rattle.layout.specs.Step.{mate-member, mate-steps}
+use Rattle.layout.proofs.Numbers.{worked-point, mate-size, mate-is, steps-round}
 use Rattle.weights.specs.Weights.{sixteen, weights-refusal, Weights-say}
 use Rattle.weights.specs.declared.RepairWeights.{RepairWeights}
 use Rattle.weights.proofs.Sixteen.{take-sixteen}
+
+pub size-is : (s : Shape) → Mending s → size s ≡ s .r + 1
+unfolding size
+size-is s M = omega (arith, M .one)
 
 module _ (s : Shape) (M : Mending s) (p : ℕ) (h : p < s .n) where
   abbrev P : Placed s
@@ -46,6 +55,26 @@ module _ (s : Shape) (M : Mending s) (p : ℕ) (h : p < s .n) where
       let b = mate-size s P p h i (mate-inside i l) in
       ap (point s) (mate-is s P p h i (mate-inside i l)) ∙ ap₂ (point-at s) (group-slot-at s P j m g b) (member-slot-at s P j m g b)
 
+  -- the steps and the slot's exponent are the mate's, or q - 1 more
+  round : (i w : ℕ) → w ≡ (q (s .field) - 1) / size s → let o = member s p in let m = mate-member o i in
+      (0 + mate-steps (size s) o i * w + (group s p + o * w) ≡ group s p + m * w) ⊎ (0 + mate-steps (size s) o i * w + (group s p + o * w) ≡ group s p + m * w + (q (s .field) - 1))
+  round i w e = ⊎-elim (λ a. inl (omega (arith, both, ap (λ n. n * w) a))) (λ a. inr (omega (arith, both, ap (λ n. n * w) a, add-mul m (size s) w, whole)))
+      (steps-round (size s) o i (member-below s P p (omega (arith, n-room s P))))
+    where
+      o : ℕ
+      o = member s p
+
+      m : ℕ
+      m = mate-member o i
+
+      both : (mate-steps (size s) o i + o) * w ≡ mate-steps (size s) o i * w + o * w
+      both = add-mul (mate-steps (size s) o i) o w
+
+      whole : size s * w ≡ q (s .field) - 1
+      whole =
+          let d : (q (s .field) - 1) / size s * size s ≡ q (s .field) - 1 = omega (arith, div-add-mod' (q (s .field) - 1) (size s), P .size-divides) in
+          ap (λ n. size s * n) e ∙ mul-comm (size s) ((q (s .field) - 1) / size s) ∙ d
+
   pub length-weights : length (weights s p) ≡ s .r
   unfolding weights weights-over
   length-weights = length-map (mates s p) (λ m. weight-over s (point s p) (point s m) m (others s p)) ∙ mates-number s M p h
@@ -58,6 +87,19 @@ module _ (s : Shape) (M : Mending s) (p : ℕ) (h : p < s .n) where
       sym (ap (λ ws. at ws i) (weights-are s p P (M .one) h)
       ∙ at-map (λ m. minus f 0 (times f (point s m) (inverse f (point s p)))) (mates s p) i (mate-inside i l)
       ∙ ap (λ y. minus f 0 (times f y (inverse f (point s p)))) (mate-point i l))
+
+  pub turned-weight : (i : ℕ) → i < s .r → (w : ℕ) → w ≡ (q (s .field) - 1) / size s
+      → minus (s .field) 0 (power (s .field) γ (0 + mate-steps (size s) (member s p) i * w)) ≡ at (weights s p) i
+  unfolding point
+  turned-weight i l w e =
+      let f = s .field in
+      let g = group s p in
+      let o = member s p in
+      let m = mate-member o i in
+      ap (minus f 0)
+      (sym (power-quotient f (g + m * w) (g + o * w) (0 + mate-steps (size s) o i * w) (round i w e))
+      ∙ ap₂ (λ y x. times f y (inverse f x)) (worked-point s g m w e) (worked-point s g o w e))
+      ∙ at-weights i l
 
   -- the first r entries of the array of weights
   pub take-weights : (ws : List ℕ) → ws ≡ sixteen (weights s p) → take (s .r) ws ≡ weights s p

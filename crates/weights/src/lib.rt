@@ -14,28 +14,24 @@ pub struct RepairWeights {
     pub weights: [u8; 16],
 }
 
-// The repair weights of a slot, with zeros after them: minus each mate's point by the slot's.
+// The repair weights of a slot, with zeros after them: minus each mate's point by the slot's. That quotient is the point of group 0 as many
+// members on as the mate is from the slot.
 pub fn weights_of(shape: Shape, slot: u32) -> [u8; 16]
     requires { ⌜ Mending shape × (slot < shape .n) ⌝ }
     ensures { λ x. ⌜ x ≡ sixteen (weights shape slot) ⌝ }
 {
     let powers = tables::power_table();
-    let logs = tables::log_table();
     let field = shape.field;
     let r = shape.r;
-    let group = layout::group_of(shape, slot);
+    let size = layout::size_of(shape);
     let member = layout::member_of(shape, slot);
     let width = layout::width_of(shape);
-    let x = layout::member_point(field, width, group, member);
-    let inverse = arithmetic::inverse_of(field, x, &powers, &logs);
     let mut weights = [0u8; 16];
     let mut i: u32 = 0;
     while i < r {
-        let mate = layout::mate_member(member, i);
-        let y = layout::member_point(field, width, group, mate);
-        let t = arithmetic::mul(field, y, inverse, &powers, &logs);
-        let w = arithmetic::sub(field, 0, t);
-        weights[i as usize] = w;
+        let steps = layout::mate_steps(size, member, i);
+        let y = layout::member_point(field, width, 0, steps, &powers);
+        weights[i as usize] = arithmetic::sub(field, 0, y);
         i += 1;
     }
     weights
