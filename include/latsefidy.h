@@ -53,8 +53,8 @@ extern "C" {
 
 #define LATSEFIDY_VERSION_MAJOR 0
 #define LATSEFIDY_VERSION_MINOR 2
-#define LATSEFIDY_VERSION_PATCH 0
-#define LATSEFIDY_VERSION "0.2.0"
+#define LATSEFIDY_VERSION_PATCH 1
+#define LATSEFIDY_VERSION "0.2.1"
 
 #define LATSEFIDY_WEIGHTS 16       /* length of a weights buffer */
 #define LATSEFIDY_STRIP_MOST 4096  /* most symbols of one strip */
@@ -150,7 +150,7 @@ uint64_t latsefidy_repair(uint32_t field, uint32_t r, uint32_t n, uint32_t k, ui
                           const uint8_t *mates, size_t mates_len);
 
 /* Rebuilds a strip, many symbols of one slot: symbol c of the strip is the repair of symbol c of
- * each mate's strip.
+ * each mate's strip. The repair weights are worked out once a call, not for each symbol.
  *   strips    r * out_len symbols: the mates' strips in slot order, end to end
  *   out       1 to 4,096 symbols, written
  * Returns 0 or the refusal, asked in the order 1 2 3 4 5 7 6:

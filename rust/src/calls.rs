@@ -55,7 +55,7 @@ impl Code {
     }
 
     /// Rebuilds a strip of the slot, 1 to [`STRIP_MOST`](crate::STRIP_MOST) symbols, from the r
-    /// mates' strips, end to end in slot order.
+    /// mates' strips, end to end in slot order. The repair weights are worked out once a call.
     ///
     /// ```
     /// let code = latsefidy::Code::new(1, 4, 10, 3)?;
