@@ -80,9 +80,9 @@ int main(int argc, char **argv) {
     struct {
         const char *name;
         void (*print)(void);
-    } tables[] = {{"rebuild", rebuild}, {"lengths", by_length}, {"stripes", stripes}, {"strips", strips}};
+    } tables[] = {{"rebuild", rebuild}, {"lengths", lengths}, {"stripes", stripes}, {"strips", strips}};
     wide = __builtin_cpu_supports("avx512bw") && __builtin_cpu_supports("avx512vl") && __builtin_cpu_supports("avx512dq");
-    for (int a = 0; a < 4; a++) {
+    for (size_t a = 0; a < sizeof tables / sizeof *tables; a++) {
         int named = argc == 1;
         for (int i = 1; i < argc; i++) named |= !strcmp(argv[i], tables[a].name);
         if (named) tables[a].print();

@@ -52,7 +52,7 @@ int invert_kept(int r, int n, int k, const uint8_t *generator, const uint8_t *ma
 
 /* the tables */
 void rebuild(void);
-void by_length(void);
+void lengths(void);
 void stripes(void);
 void strips(void);
 
