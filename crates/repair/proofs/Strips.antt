@@ -9,7 +9,7 @@ use Prim.Native.Nat.{ℕ, _+_, _*_, _<_}
 use native.Mathlib.Omega.{arith}
 use lib.Arith.{digits-lt}
 use lib.Dec.{T}
-use lib.ListN.{length, take}
+use lib.ListN.{length}
 use Rattle.algebra.specs.Sequence.{at, tabulate, column, all-below}
 use Rattle.algebra.proofs.Booleans.{yes-true}
 use Rattle.algebra.proofs.Below.{all-below-at, all-below-intro}

@@ -1,8 +1,6 @@
 -- Repair weights as they are worked out. Assumes nothing.
 --   size-is                          a group has r + 1 members
---   mate-point                       the point of mate i, by the slot's group and member
---   length-weights, at-weights       weight i is minus the point of mate i by the slot's
---   turned-weight                    and minus the point of group 0, as many members on as the mate is from the slot
+--   length-weights, turned-weight    weight i is minus the point of group 0, as many members on as mate i is from the slot
 --   take-weights, dotted-repaired    the weights, and a repaired symbol, by the array of weights
 --   weights-answered                 the array that the call answers where it refuses nothing
 use mathlib.Core.Path.{_≡_, sym, ap, ap₂, _∙_}
@@ -43,10 +41,11 @@ module _ (s : Shape) (M : Mending s) (p : ℕ) (h : p < s .n) where
   abbrev P : Placed s
   P = M .placed
 
-  pub mate-inside : (i : ℕ) → i < s .r → i < length (mates s p)
+  mate-inside : (i : ℕ) → i < s .r → i < length (mates s p)
   mate-inside i l = omega (arith, mates-number s M p h)
 
-  pub mate-point : (i : ℕ) → i < s .r → point s (at (mates s p) i) ≡ point-at s (group s p) (mate-member (member s p) i)
+  -- the point of mate i, by the slot's group and member
+  mate-point : (i : ℕ) → i < s .r → point s (at (mates s p) i) ≡ point-at s (group s p) (mate-member (member s p) i)
   unfolding point
   mate-point i l =
       let j = group s p in
@@ -79,7 +78,8 @@ module _ (s : Shape) (M : Mending s) (p : ℕ) (h : p < s .n) where
   unfolding weights weights-over
   length-weights = length-map (mates s p) (λ m. weight-over s (point s p) (point s m) m (others s p)) ∙ mates-number s M p h
 
-  pub at-weights : (i : ℕ) → i < s .r
+  -- weight i is minus the point of mate i by the slot's
+  at-weights : (i : ℕ) → i < s .r
       → minus (s .field) 0 (times (s .field) (point-at s (group s p) (mate-member (member s p) i)) (inverse (s .field) (point s p))) ≡ at (weights s p) i
   unfolding Weights-are
   at-weights i l =

@@ -1,12 +1,11 @@
 use borrow.Author.Needs.{needs}
 use mathlib.Core.Path.{_≡_, ap, ap₂, _∙_}
-use Prim.Native.Nat.{ℕ, suc, _+_, _*_, _-_, _≤_, _<_}
+use Prim.Native.Nat.{ℕ, _+_, _*_, _-_, _≤_, _<_}
 use native.Mathlib.Omega.{arith}
 use lib.ListN.{replicate}
 use Rattle.algebra.specs.Sequence.{at}
 use Rattle.algebra.proofs.Filling.{Filled, filled-none, filled-more}
 use Rattle.field.specs.Field.{γ, minus, power}
-use Rattle.code.specs.Shape.{size, member, groups}
 use Rattle.code.specs.Repair.{weights}
 use Rattle.code.proofs.Bounds.{r-most}
 use Rattle.code.proofs.Places.{n-room, group-below}
