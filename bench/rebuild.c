@@ -170,7 +170,7 @@ static void isal(void) {
 }
 
 /* those before the weights write the strip over both fields, ISA-L over bytes */
-enum { LENGTH, LENGTH3, LENGTH4, REPAIR, WEIGHTS, ISAL, CONTESTANTS };
+enum { WEIGHTS = 4, ISAL, CONTESTANTS };
 static contestant by_length[CONTESTANTS] = {{"x86-64", call, 0, 0},       {"v3", call_v3, 0, 0},     {"v4", call_v4, 1, 0},
                                             {"repair", one_by_one, 0, 0}, {"weights", weigh, 0, 0}, {"ISA-L", isal, 0, 0}};
 

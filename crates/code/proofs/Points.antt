@@ -23,7 +23,7 @@ use Rattle.code.specs.Promise.{Points-differ, Group-power}
 use Rattle.code.proofs.Places.{size-least, group-below, member-below, same-place, group-slot-at, member-slot-at}
 
 -- members of a group are width powers of γ apart
-pub width : Shape → ℕ
+unfoldable pub width : Shape → ℕ
 width s = (q (s .field) - 1) / size s
 
 -- the power of γ that is the point of place p

@@ -1,5 +1,4 @@
 -- Repair weights as they are worked out. Assumes nothing.
---   size-is                          a group has r + 1 members
 --   length-weights, turned-weight    weight i is minus the point of group 0, as many members on as mate i is from the slot
 --   take-weights, dotted-repaired    the weights, and a repaired symbol, by the array of weights
 --   weights-answered                 the array that the call answers where it refuses nothing
@@ -8,7 +7,7 @@ use mathlib.Core.Logic.{_⊎_, inl, inr, ⊎-elim}
 use mathlib.Core.Bool.{cond}
 use mathlib.Core.List.{List, []}
 use Prim.Native.Nat.{ℕ, _+_, _*_, _-_, _/_, _<_}
-use native.Mathlib.Nat.{add-mul, mul-comm, div-add-mod'}
+use native.Mathlib.Nat.{add-mul, mul-comm}
 use native.Mathlib.Omega.{arith}
 use borrow.Author.Tests.{eq-eqb}
 use lib.ListN.{length, take, length-map}
@@ -24,6 +23,7 @@ use Rattle.code.specs.Repair.{weight-over, weights-over, weights, restored, rep
 use Rattle.code.specs.Laws.{Placed, Mending}
 use Rattle.code.specs.Promise.{Weights-are}
 use Rattle.code.proofs.Places.{n-room, group-below, member-below, group-slot-at, member-slot-at}
+use Rattle.code.proofs.Points.{width, width-size}
 use Rattle.code.proofs.Bounds.{r-most}
 use Rattle.code.proofs.Mates.{mates-number}
 use Rattle.code.proofs.Parity.{weights-are}
@@ -32,10 +32,6 @@ use Rattle.layout.proofs.Numbers.{worked-point, mate-size, mate-is, steps-round
 use Rattle.weights.specs.Weights.{sixteen, weights-refusal, Weights-say}
 use Rattle.weights.specs.declared.RepairWeights.{RepairWeights}
 use Rattle.weights.proofs.Sixteen.{take-sixteen}
-
-pub size-is : (s : Shape) → Mending s → size s ≡ s .r + 1
-unfolding size
-size-is s M = omega (arith, M .one)
 
 module _ (s : Shape) (M : Mending s) (p : ℕ) (h : p < s .n) where
   abbrev P : Placed s
@@ -57,6 +53,7 @@ module _ (s : Shape) (M : Mending s) (p : ℕ) (h : p < s .n) where
   -- the steps and the slot's exponent are the mate's, or q - 1 more
   round : (i w : ℕ) → w ≡ (q (s .field) - 1) / size s → let o = member s p in let m = mate-member o i in
       (0 + mate-steps (size s) o i * w + (group s p + o * w) ≡ group s p + m * w) ⊎ (0 + mate-steps (size s) o i * w + (group s p + o * w) ≡ group s p + m * w + (q (s .field) - 1))
+  unfolding width
   round i w e = ⊎-elim (λ a. inl (omega (arith, both, ap (λ n. n * w) a))) (λ a. inr (omega (arith, both, ap (λ n. n * w) a, add-mul m (size s) w, whole)))
       (steps-round (size s) o i (member-below s P p (omega (arith, n-room s P))))
     where
@@ -70,9 +67,7 @@ module _ (s : Shape) (M : Mending s) (p : ℕ) (h : p < s .n) where
       both = add-mul (mate-steps (size s) o i) o w
 
       whole : size s * w ≡ q (s .field) - 1
-      whole =
-          let d : (q (s .field) - 1) / size s * size s ≡ q (s .field) - 1 = omega (arith, div-add-mod' (q (s .field) - 1) (size s), P .size-divides) in
-          ap (λ n. size s * n) e ∙ mul-comm (size s) ((q (s .field) - 1) / size s) ∙ d
+      whole = ap (λ n. size s * n) e ∙ mul-comm (size s) (width s) ∙ width-size s P
 
   pub length-weights : length (weights s p) ≡ s .r
   unfolding weights weights-over

@@ -7,11 +7,11 @@ use Rattle.algebra.specs.Sequence.{at}
 use Rattle.algebra.proofs.Filling.{Filled, filled-none, filled-more}
 use Rattle.field.specs.Field.{γ, minus, power}
 use Rattle.code.specs.Repair.{weights}
-use Rattle.code.proofs.Bounds.{r-most}
+use Rattle.code.proofs.Bounds.{size-is, r-most}
 use Rattle.code.proofs.Places.{n-room, group-below}
 use Rattle.layout.specs.Step.{mate-steps}
 use Rattle.layout.proofs.Numbers.{worked-below, steps-below}
-use Rattle.weights.proofs.Weighing.{size-is, length-weights, turned-weight}
+use Rattle.weights.proofs.Weighing.{length-weights, turned-weight}
 use Rattle.weights.proofs.Sixteen.{sixteen-of}
 use Rattle.weights.proofs.weights_of.Statement.{statement}
 use Rattle.weights.proofs.weights_of.Tie as tie
@@ -47,7 +47,7 @@ loop-holds c =
 few : (c : tie.In-loop Inv-loop μ-loop) → let a = c .before .before .before .before .before .before .args in (a .shape .r ≤ 16) × (c .before .before .before .before .size-of .result ≡ a .shape .r + 1)
 few c =
     let s = c .before .before .before .before .before .before in
-    (r-most (s .args .shape) (s .pre .0 .placed), c .before .before .before .before .size-of .ensures ∙ size-is (s .args .shape) (s .pre .0))
+    (r-most (s .args .shape) (s .pre .0 .placed), omega (arith, c .before .before .before .before .size-of .ensures, size-is (s .args .shape), s .pre .0 .one))
 
 mate-steps-requires : tie.Need-mate-steps-requires Inv-loop μ-loop
 mate-steps-requires c κs =
