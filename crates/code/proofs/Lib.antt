@@ -28,4 +28,5 @@ pub mod Coefficients
 pub mod Accepted
 pub mod Bounds
 pub mod Shared
+pub mod Wirings
 pub mod Promises

@@ -1,8 +1,8 @@
 -- The codes of the paper: their numbers, the shape that they mean, and the questions on the numbers. Assumes nothing: these are definitions.
---   code-of         the code of four numbers
---   single c        its shape: groups of r + 1 that stand one loss, one after the other
---   code-refusal    questions 1 to 4, in order
-use mathlib.Core.Bool.{Bool, _&&_}
+--   code-of         the code of five numbers
+--   single c        its shape: groups of r + 1 that stand one loss
+--   code-refusal    questions 1 to 4 and 17, in order
+use mathlib.Core.Bool.{Bool, _&&_, _||_}
 use Prim.Native.Nat.{ℕ, _*_, _-_, _/_, _%_}
 use lib.Dec.{leb, eqb}
 use Rattle.field.specs.Field.{q}
@@ -11,11 +11,11 @@ use Rattle.code.specs.declared.Shape.{Shape}
 use Rattle.code.specs.Question.{ask}
 use Rattle.code.specs.Shape.{size}
 
-abbrev pub code-of : (field r n k : ℕ) → Code
-code-of f r n k = record { field = f; r = r; n = n; k = k }
+abbrev pub code-of : (field r n k wiring : ℕ) → Code
+code-of f r n k w = record { field = f; r = r; n = n; k = k; wiring = w }
 
 abbrev pub single : Code → Shape
-single c = record { field = c .field; r = c .r; n = c .n; k = c .k; wiring = 0; tolerance = 1; second = 0 }
+single c = record { field = c .field; r = c .r; n = c .n; k = c .k; wiring = c .wiring; tolerance = 1; second = 0 }
 
 -- 1: is the field 0 or 1?
 unfoldable pub field-known : Shape → Bool
@@ -33,7 +33,11 @@ n-fits s = eqb (s .n % size s) 0 && (leb (size s) (s .n) && leb (s .n) (q (s .fi
 unfoldable pub k-fits : Shape → Bool
 k-fits s = leb 1 (s .k) && leb (s .k) (s .r * (s .n / size s))
 
+-- 17: is the wiring 0, or 1 with n a multiple of the group size?
+unfoldable pub wiring-fits : Shape → Bool
+wiring-fits s = eqb (s .wiring) 0 || (eqb (s .wiring) 1 && eqb (s .n % size s) 0)
+
 unfoldable pub code-refusal : Code → ℕ
 code-refusal c =
     let s = single c in
-    ask (field-known s) 1 (ask (r-fits s) 2 (ask (n-fits s) 3 (ask (k-fits s) 4 0)))
+    ask (field-known s) 1 (ask (r-fits s) 2 (ask (n-fits s) 3 (ask (k-fits s) 4 (ask (wiring-fits s) 17 0))))

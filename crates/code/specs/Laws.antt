@@ -4,9 +4,9 @@
 --   Family s      four laws of the basis polynomials: degree, independence, zeros behind the slots, r coefficients on a group
 --   Plain s       a family of whole groups without a second size: message symbol m goes with X to the power exponent m
 --   Mending s     whole groups that the repair of one slot mends
---   Decodable s   a plain family whose groups mend themselves so, and stand one after the other
+--   Decodable s   a plain family whose groups mend themselves so
 use mathlib.Core.Path.{_≡_}
-use mathlib.Core.Bool.{true, false}
+use mathlib.Core.Bool.{true}
 use mathlib.Core.List.{List}
 use Prim.Native.Nat.{ℕ, _+_, _*_, _-_, _%_, _≤_, _<_}
 use lib.ListN.{length}
@@ -65,4 +65,3 @@ pub record Mending (s : Shape) : Type 0 where
 pub record Decodable (s : Shape) : Type 0 where
   pub plain : Plain s
   pub one : s .tolerance ≡ 1
-  pub unwired : wired s ≡ false

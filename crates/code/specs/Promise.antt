@@ -2,6 +2,7 @@
 --   Families                                              the codes of the paper are a family, and a plain one
 --   Points-differ, Group-power, Exponents-are             points and exponents
 --   Shared-are, Code-numbers                              the most places that two codewords share, and the guarantee, in closed form
+--   Wiring-moves                                          the wiring moves symbols, and changes none
 --   Symbols-in-field, Low-degree                             codewords
 --   Far-apart, Decodes-back, Encoding-injective, Bridges  one proof of the distance rule; messages and codewords
 --   Groups-tell, Restores, Repairs-back, Strip-restores   groups
@@ -19,7 +20,7 @@ use Rattle.field.specs.Field.{q, γ, minus, times, power, inverse}
 use Rattle.field.specs.Polynomial.{poly, dotted}
 use Rattle.code.specs.declared.Code.{Code}
 use Rattle.code.specs.declared.Shape.{Shape}
-use Rattle.code.specs.Shape.{ceiling, size, groups, room, missing, group, point, others, mates}
+use Rattle.code.specs.Shape.{ceiling, size, groups, room, missing, group, slot-at, point, others, mates}
 use Rattle.code.specs.Basis.{exponent, degree, most-shared}
 use Rattle.code.specs.Family.{single, code-refusal}
 use Rattle.code.specs.Codeword.{is-message, value, symbol, encoded, Codeword, shared, guarantee}
@@ -29,7 +30,7 @@ use Rattle.code.specs.Repair.{restored, weights, repaired, symbols-of, s
 use Rattle.code.specs.Pass.{kept-places, mends, passed, marks-after}
 use Rattle.code.specs.Laws.{Placed, On-group, Family, Plain}
 
--- a code that questions 1 to 4 pass
+-- a code that questions 1 to 4 and 17 pass
 abbrev pub Accepted : Code → Type 0
 Accepted c = code-refusal c ≡ 0
 
@@ -73,6 +74,19 @@ pub record Numbers (c : Code) : Type 0 where
 
 unfoldable pub Code-numbers : Type 0
 Code-numbers = (c : Code) → Accepted c → Numbers c
+
+-- the same numbers in another wiring
+abbrev pub rewired : (wiring : ℕ) → Shape → Shape
+rewired w s =
+    record { field = s .field; r = s .r; n = s .n; k = s .k; wiring = w; tolerance = s .tolerance; second = s .second }
+
+-- the wiring moves symbols and changes none: a member of a group has the same one in either, and as many losses are sure
+pub record Moved (s t : Shape) : Type 0 where
+  pub symbols : (xs : List ℕ) (j i : ℕ) → j < groups s → i < size s → symbol t xs (slot-at t j i) ≡ symbol s xs (slot-at s j i)
+  pub sure : guarantee t ≡ guarantee s
+
+unfoldable pub Wiring-moves : Type 0
+Wiring-moves = (s : Shape) (w : ℕ) → Plain s → Moved s (rewired w s)
 
 -- symbols of a codeword are below q
 unfoldable pub Symbols-in-field : Type 0
@@ -197,6 +211,7 @@ pub record Promises : Type 0 where
   pub exponents-are : Exponents-are
   pub shared-are : Shared-are
   pub code-numbers : Code-numbers
+  pub wiring-moves : Wiring-moves
   pub symbols-in-field : Symbols-in-field
   pub low-degree : Low-degree
   pub far-apart : Far-apart

@@ -1,15 +1,16 @@
 // A code by its numbers: the public record, the shape that all families of codes share, and the answer of a call.
 
-// The code record of the paper: the field, the locality r, the length n and the dimension k.
+// The code record of the paper: the field, the locality r, the length n, the dimension k, and the wiring: how slots fall to repair
+// groups, 0 one group after the other, 1 spread over the shelves.
 pub struct Code {
     pub field: u32,
     pub r: u32,
     pub n: u32,
     pub k: u32,
+    pub wiring: u32,
 }
 
-// Every family in one struct: groups of r + tolerance members, which stand tolerance losses; wiring says how slots fall to groups;
-// second is another group size, or 0.
+// Every family in one struct: groups of r + tolerance members, which stand tolerance losses; second is another group size, or 0.
 pub struct Shape {
     pub field: u32,
     pub r: u32,

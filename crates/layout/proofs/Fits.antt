@@ -1,16 +1,17 @@
--- How the answers to questions 2 to 4 follow from the tests. Assumes nothing.
+-- How the answers to questions 2 to 4 and 17 follow from the tests. Assumes nothing.
 --   and-no-left, and-no-right
---   r-*, n-*, k-*              the answers
+--   r-*, n-*, k-*, wiring-*    the answers
 use mathlib.Core.Path.{_≡_, refl}
 use mathlib.Core.Logic.{_≢_}
 use mathlib.Core.Bool.{Bool, true, false, _&&_}
 use Prim.Native.Nat.{_*_, _-_, _/_, _%_, _≤_, _<_}
+use native.Mathlib.Omega.{arith}
 use lib.Dec.{leb, eqb}
 use borrow.Author.Tests.{le-leb, lt-leb, eq-eqb, ne-eqb}
 use Rattle.field.specs.Field.{q}
 use Rattle.code.specs.declared.Shape.{Shape}
 use Rattle.code.specs.Shape.{size}
-use Rattle.code.specs.Family.{r-fits, n-fits, k-fits}
+use Rattle.code.specs.Family.{r-fits, n-fits, k-fits, wiring-fits}
 
 pub and-no-left : (a b : Bool) → a ≡ false → a && b ≡ false
 and-no-left a b e = rw e refl
@@ -66,3 +67,20 @@ module _ (s : Shape) where
   pub k-good : 1 ≤ s .k → s .k ≤ s .r * (s .n / size s) → k-fits s ≡ true
   unfolding k-fits
   k-good h l = rw (le-leb 1 (s .k) h, le-leb (s .k) (s .r * (s .n / size s)) l) refl
+
+  -- 17
+  pub wiring-large : 1 < s .wiring → wiring-fits s ≡ false
+  unfolding wiring-fits
+  wiring-large h = rw (ne-eqb (s .wiring) 0 (λ e. omega arith), ne-eqb (s .wiring) 1 (λ e. omega arith)) refl
+
+  pub wiring-none : s .wiring ≡ 0 → wiring-fits s ≡ true
+  unfolding wiring-fits
+  wiring-none e = rw (eq-eqb (s .wiring) 0 e) refl
+
+  pub wiring-odd : s .wiring ≢ 0 → s .n % size s ≢ 0 → wiring-fits s ≡ false
+  unfolding wiring-fits
+  wiring-odd h m = rw (ne-eqb (s .wiring) 0 h, ne-eqb (s .n % size s) 0 m) (and-no-right (eqb (s .wiring) 1) false refl)
+
+  pub wiring-good : s .wiring ≤ 1 → s .wiring ≢ 0 → s .n % size s ≡ 0 → wiring-fits s ≡ true
+  unfolding wiring-fits
+  wiring-good l h m = rw (ne-eqb (s .wiring) 0 h, eq-eqb (s .wiring) 1 (omega arith), eq-eqb (s .n % size s) 0 m) refl

@@ -1,4 +1,4 @@
-// Where the symbols of a code stand: questions 1 to 4, repair groups, slots, mates and evaluation points. No other crate divides by the group size.
+// Where the symbols of a code stand: questions 1 to 4 and 17, repair groups, slots, mates and evaluation points. No other crate divides by the group size.
 ghost use mathlib.Core.Path.{_≡_};
 ghost use Prim.Native.Nat.{_+_, _*_, _-_, _/_, _≤_, _<_};
 ghost use lib.ListN.{length};
@@ -6,14 +6,14 @@ ghost use Rattle.algebra.specs.Sequence.{at};
 ghost use Rattle.field.specs.Table.{Powers};
 ghost use Rattle.field.specs.Field.{q, γ, power};
 ghost use Rattle.code.specs.Question.{ask};
-ghost use Rattle.code.specs.Family.{single, n-fits, k-fits, code-refusal};
+ghost use Rattle.code.specs.Family.{single, n-fits, k-fits, wiring-fits, code-refusal};
 ghost use Rattle.code.specs.Shape.{size, groups, missing, group, member, first, step, slot-at, point-at, point, mates};
 ghost use Rattle.code.specs.Laws.{Placed};
 ghost use Rattle.layout.specs.Step.{mate-member, mate-steps};
 use code::Code;
 use code::Shape;
 
-// The shape of a code of the paper: groups of r + 1 that stand one loss, one after the other.
+// The shape of a code of the paper: groups of r + 1 that stand one loss.
 pub fn single(code: Code) -> Shape
     ensures { λ x. ⌜ x ≡ single code ⌝ }
 {
@@ -22,13 +22,13 @@ pub fn single(code: Code) -> Shape
         r: code.r,
         n: code.n,
         k: code.k,
-        wiring: 0,
+        wiring: code.wiring,
         tolerance: 1,
         second: 0,
     }
 }
 
-// The refusal of questions 1 to 4, or 0.
+// The refusal of questions 1 to 4 and 17, or 0.
 pub fn code_refusal(code: Code) -> u32
     ensures { λ x. ⌜ x ≡ code-refusal code ⌝ }
 {
@@ -50,10 +50,30 @@ pub fn code_refusal(code: Code) -> u32
     length_refusal(code, most)
 }
 
-// The refusal of questions 3 and 4, or 0; most is q - 1.
+// The refusal of question 17, or 0.
+fn wiring_refusal(code: Code) -> u32
+    requires { ⌜ code .r ≤ 16 ⌝ }
+    ensures { λ x. ⌜ x ≡ ask (wiring-fits (single code)) 17 0 ⌝ }
+{
+    let wiring = code.wiring;
+    let n = code.n;
+    let size = code.r + 1;
+    if wiring > 1 {
+        return 17;
+    }
+    if wiring == 0 {
+        return 0;
+    }
+    if n % size != 0 {
+        return 17;
+    }
+    0
+}
+
+// The refusal of questions 3, 4 and 17, or 0; most is q - 1.
 fn length_refusal(code: Code, most: u32) -> u32
     requires { ⌜ (code .r ≤ 16) × (most ≡ q (code .field) - 1) × (most ≤ 255) ⌝ }
-    ensures { λ x. ⌜ x ≡ ask (n-fits (single code)) 3 (ask (k-fits (single code)) 4 0) ⌝ }
+    ensures { λ x. ⌜ x ≡ ask (n-fits (single code)) 3 (ask (k-fits (single code)) 4 (ask (wiring-fits (single code)) 17 0)) ⌝ }
 {
     let r = code.r;
     let n = code.n;
@@ -74,7 +94,7 @@ fn length_refusal(code: Code, most: u32) -> u32
     if k > r * (n / size) {
         return 4;
     }
-    0
+    wiring_refusal(code)
 }
 
 // The members of a whole group.

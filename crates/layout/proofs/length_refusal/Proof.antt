@@ -1,5 +1,4 @@
 use borrow.Author.Needs.{needs}
-use mathlib.Core.Path.{refl}
 use Prim.Native.Nat.{_+_, _*_, _/_, _≤_}
 use native.Mathlib.Nat.{mul-le-mul-left, div-le-self}
 use native.Mathlib.Omega.{arith}
@@ -30,7 +29,7 @@ returns-3 c = ask-no 3 _ (n-large (single (c .before .before .before .args .code
 returns-4 : tie.Need-returns-4
 unfolding size
 returns-4 c =
-    ask-yes 3 (n-good (single (c .before .before .before .before .args .code)) (c .before .before .before .if1 .left) (c .before .before .if2 .left) (omega arith)) (ask-no 4 0 (k-small (single (c .before .before .before .before .args .code)) (c .if4 .taken)))
+    ask-yes 3 (n-good (single (c .before .before .before .before .args .code)) (c .before .before .before .if1 .left) (c .before .before .if2 .left) (omega arith)) (ask-no 4 _ (k-small (single (c .before .before .before .before .args .code)) (c .if4 .taken)))
 
 div-if5 : tie.Need-div-if5
 div-if5 c = search needs
@@ -45,13 +44,18 @@ mul-if5 c =
 returns-5 : tie.Need-returns-5
 unfolding size
 returns-5 c =
-    ask-yes 3 (n-good (single (c .before .before .before .before .before .args .code)) (c .before .before .before .before .if1 .left) (c .before .before .before .if2 .left) (omega arith)) (ask-no 4 0 (k-large (single (c .before .before .before .before .before .args .code)) (c .if5 .taken)))
+    ask-yes 3 (n-good (single (c .before .before .before .before .before .args .code)) (c .before .before .before .before .if1 .left) (c .before .before .before .if2 .left) (omega arith)) (ask-no 4 _ (k-large (single (c .before .before .before .before .before .args .code)) (c .if5 .taken)))
+
+wiring-refusal-requires : tie.Need-wiring-refusal-requires
+wiring-refusal-requires c κs = search needs
 
 returns-6 : tie.Need-returns-6
 unfolding size
 returns-6 c =
-    ask-yes 3 (n-good (single (c .before .before .before .before .before .args .code)) (c .before .before .before .before .if1 .left) (c .before .before .before .if2 .left) (omega arith))
-    (ask-yes 4 (k-good (single (c .before .before .before .before .before .args .code)) (c .before .if4 .left) (c .if5 .left)) refl)
+    let s = single (c .before .before .before .before .before .before .args .code) in
+    let e = c .before in
+    ask-yes 3 (n-good s (e .before .before .before .before .if1 .left) (e .before .before .before .if2 .left) (omega arith))
+    (ask-yes 4 (k-good s (e .before .if4 .left) (e .if5 .left)) (c .wiring-refusal .ensures))
 
 pub length-refusal-spec : {M : Type 1} → statement M
 length-refusal-spec =
@@ -66,4 +70,5 @@ length-refusal-spec =
     div-if5
     mul-if5
     returns-5
+    wiring-refusal-requires
     returns-6)
