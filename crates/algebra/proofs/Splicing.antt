@@ -1,9 +1,10 @@
--- A buffer filled stretch by stretch: a part that was lent out and has come back. Assumes nothing.
+-- A part of a buffer that was lent out and has come back. Assumes nothing.
 --   splice m k z xs    == the list z with xs in the place of the k entries from m on
---   filled-part        a buffer filled as far as m is filled as far as m + k
+--   length-splice, spliced-in, spliced-out    its length, and its entries in that place and elsewhere
 --   laid-splice        a list laid down in a buffer stands in the place of what was there
 --   laid-front, laid-all    it is the front of the buffer, or all of it
 use mathlib.Core.Path.{_≡_, sym, ap, _∙_}
+use mathlib.Core.Logic.{_≢_}
 use mathlib.Core.List.{List, _++_}
 use Prim.Native.Nat.{ℕ, _+_, _-_, _≤_, _<_}
 use native.Mathlib.Decide.{decLt}
@@ -12,7 +13,6 @@ use lib.ListN.{length, take, drop, length-append, length-drop, List·getD-append
 use lib.Seq.{length-take-le, take-all, getD-append-add, getD-take, getD-drop, ext-getD}
 use Rattle.algebra.specs.Sequence.{at}
 use Rattle.algebra.specs.Writing.{Laid}
-use Rattle.algebra.proofs.Filling.{Filled}
 
 abbrev pub splice : (m k : ℕ) → (z xs : List ℕ) → List ℕ
 splice m k z xs = take m z ++ (xs ++ drop k (drop m z))
@@ -21,7 +21,7 @@ module _ (m k : ℕ) (z xs : List ℕ) (h : m + k ≤ length z) (e : length xs �
   front-length : length (take m z) ≡ m
   front-length = length-take-le m z (omega arith)
 
-  length-splice : length (splice m k z xs) ≡ length z
+  pub length-splice : length (splice m k z xs) ≡ length z
   length-splice = omega (arith, length-append (take m z) (xs ++ drop k (drop m z)), front-length, length-append xs (drop k (drop m z)), length-drop k (drop m z), length-drop m z)
 
   before : (i : ℕ) → i < m → at (splice m k z xs) i ≡ at z i
@@ -30,8 +30,8 @@ module _ (m k : ℕ) (z xs : List ℕ) (h : m + k ≤ length z) (e : length xs �
   past : (i : ℕ) → at (splice m k z xs) (m + i) ≡ at (xs ++ drop k (drop m z)) i
   past i = ap (λ n. at (splice m k z xs) (n + i)) (sym front-length) ∙ getD-append-add (take m z) (xs ++ drop k (drop m z)) i 0
 
-  within : (i : ℕ) → i < k → at (splice m k z xs) (m + i) ≡ at xs i
-  within i l = past i ∙ List·getD-append xs (drop k (drop m z)) 0 i (omega arith)
+  pub spliced-in : (i : ℕ) → i < k → at (splice m k z xs) (m + i) ≡ at xs i
+  spliced-in i l = past i ∙ List·getD-append xs (drop k (drop m z)) 0 i (omega arith)
 
   after : (i : ℕ) → m + k ≤ i → at (splice m k z xs) i ≡ at z i
   after i l =
@@ -40,22 +40,14 @@ module _ (m k : ℕ) (z xs : List ℕ) (h : m + k ≤ length z) (e : length xs �
       ap (at (splice m k z xs)) s ∙ past (k + d) ∙ ap (λ n. at (xs ++ drop k (drop m z)) (n + d)) (sym e)
       ∙ getD-append-add xs (drop k (drop m z)) d 0 ∙ getD-drop k (drop m z) d 0 ∙ getD-drop m z (k + d) 0 ∙ ap (at z) (sym s)
 
-pub filled-part : (f : ℕ → ℕ) (m k : ℕ) (a z xs : List ℕ) → Filled f m a z → m + k ≤ length a → length xs ≡ k
-    → ((i : ℕ) → i < k → at xs i ≡ f (m + i)) → Filled f (m + k) a (splice m k z xs)
-filled-part f m k a z xs F h e g =
-    let l : m + k ≤ length z = omega (arith, F .size) in
-    record {
-      size = length-splice m k z xs l e ∙ F .size;
-      below = λ i b. go l i b (decLt i m);
-      above = λ i b. after m k z xs l e i b ∙ F .above i (omega arith);
-    }
-  where
-    go : m + k ≤ length z → (i : ℕ) → i < m + k → Dec (i < m) → at (splice m k z xs) i ≡ f i
-    go l i b (yes p) = before m k z xs l e i p ∙ F .below i p
-    go l i b (no p) =
-        let s : i ≡ m + (i - m) = omega arith in
-        let d : i - m < k = omega arith in
-        ap (at (splice m k z xs)) s ∙ within m k z xs l e (i - m) d ∙ g (i - m) d ∙ ap f (sym s)
+module _ (m k : ℕ) (z xs : List ℕ) (h : m + k ≤ length z) (e : length xs ≡ k) where
+  pub spliced-out : (i : ℕ) → ((d : ℕ) → d < k → i ≢ m + d) → at (splice m k z xs) i ≡ at z i
+  spliced-out i n = go (decLt i m) (decLt i (m + k))
+    where
+      go : Dec (i < m) → Dec (i < m + k) → at (splice m k z xs) i ≡ at z i
+      go (yes p) q = before m k z xs h e i p
+      go (no p) (yes q) = absurd (n (i - m) (omega arith) (omega arith))
+      go (no p) (no q) = after m k z xs h e i (omega arith)
 
 -- h are the entries of xs
 module _ (xs : List ℕ) (h : ℕ → ℕ) (n : ℕ) (e : length xs ≡ n) (same : (i : ℕ) → i < n → h i ≡ at xs i) (a z : List ℕ) where
@@ -68,7 +60,7 @@ module _ (xs : List ℕ) (h : ℕ → ℕ) (n : ℕ) (e : length xs ≡ n) (same
       go i (no p) (yes q) =
           let s : i ≡ d + (i - d) = omega arith in
           let b : i - d < n = omega arith in
-          L .written .put i (omega arith) q ∙ same (i - d) b ∙ sym (within d n a xs l e (i - d) b) ∙ ap (at (splice d n a xs)) (sym s)
+          L .written .put i (omega arith) q ∙ same (i - d) b ∙ sym (spliced-in d n a xs l e (i - d) b) ∙ ap (at (splice d n a xs)) (sym s)
       go i (no p) (no q) = L .written .behind i (omega arith) ∙ sym (after d n a xs l e i (omega arith))
 
   pub laid-front : n ≤ length a → Laid h 0 n a z → take n z ≡ xs

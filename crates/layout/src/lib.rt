@@ -9,7 +9,7 @@ ghost use Rattle.code.specs.Question.{ask};
 ghost use Rattle.code.specs.Family.{single, n-fits, k-fits, wiring-fits, code-refusal};
 ghost use Rattle.code.specs.Shape.{size, groups, missing, group, member, first, step, slot-at, point-at, point, mates};
 ghost use Rattle.code.specs.Laws.{Placed};
-ghost use Rattle.layout.specs.Step.{mate-member, mate-steps};
+ghost use Rattle.layout.specs.Step.{mate-member, mate-steps, span};
 use code::Code;
 use code::Shape;
 
@@ -142,6 +142,14 @@ pub fn step_of(shape: Shape) -> u32
         return groups_of(shape);
     }
     1
+}
+
+// How many slots there are from a group's first member to its last: the group's own, and under wiring 1 those of others between them.
+pub fn span_of(shape: Shape) -> u32
+    requires { ⌜ Placed shape ⌝ }
+    ensures { λ x. ⌜ x ≡ span shape ⌝ }
+{
+    (size_of(shape) - 1) * step_of(shape) + 1
 }
 
 // The place of a member of a group.

@@ -1,4 +1,4 @@
 pub mod Members
 pub mod Mended
-pub mod Lending
+pub mod Spliced
 pub mod Groups

@@ -1,11 +1,12 @@
--- A group's part of the word and of the marks, by members. Assumes nothing.
---   length-mates-part, mate-within  a member's mates in a part
---   symbols-part                    their symbols, in the part and in the word
---   lone-part, mends-part           a group's only loss, in the part and in the word
+-- A group's span of the word and of the marks, by members. Assumes nothing.
+--   Of-span s j ws xs               == xs has the word's entries at the members of group j
+--   length-mates-part, mate-within  a member's mates in a span
+--   symbols-part                    their symbols, in the span and in the word
+--   lone-part, mends-part           a group's only loss, in the span and in the word
 use mathlib.Core.Path.{_≡_, sym, ap, ap₂, _∙_}
 use mathlib.Core.Bool.{Bool, true, false, cond, _&&_}
 use mathlib.Core.List.{List}
-use Prim.Native.Nat.{ℕ, suc, _+_, _<_}
+use Prim.Native.Nat.{ℕ, suc, _+_, _*_, _<_}
 use native.Mathlib.Omega.{arith}
 use lib.Dec.{ltb, eqb}
 use lib.ListN.{length}
@@ -14,7 +15,7 @@ use Rattle.algebra.specs.Sequence.{at}
 use Rattle.algebra.proofs.Tabulate.{length-tabulate, at-tabulate}
 use Rattle.algebra.proofs.Counting.{count-same}
 use Rattle.code.specs.declared.Shape.{Shape}
-use Rattle.code.specs.Shape.{size, groups, slot-at, mates}
+use Rattle.code.specs.Shape.{size, groups, step, slot-at, mates}
 use Rattle.code.specs.Decoding.{lost}
 use Rattle.code.specs.Erasure.{group-losses}
 use Rattle.code.specs.Repair.{symbols-of}
@@ -22,11 +23,13 @@ use Rattle.code.specs.Pass.{mendable, mends}
 use Rattle.code.specs.Laws.{Placed, Mending}
 use Rattle.code.proofs.Places.{slot-below, group-slot-at, member-slot-at, whole-room}
 use Rattle.code.proofs.Mates.{mates-number, length-symbols, at-symbols}
-use Rattle.code.proofs.Parts.{Of-group}
 use Rattle.code.proofs.Lone.{mendable-one}
 use Rattle.layout.specs.Step.{mate-member}
 use Rattle.layout.proofs.Numbers.{mate-is}
 use Rattle.mending.specs.Step.{lone, part-mates}
+
+abbrev pub Of-span : Shape → (group : ℕ) → (word part : List ℕ) → Type 0
+Of-span s j ws xs = (i : ℕ) → i < size s → at xs (i * step s) ≡ at ws (slot-at s j i)
 
 pub mate-within : (s : Shape) → s .tolerance ≡ 1 → (i k : ℕ) → k < s .r → mate-member i k < size s
 unfolding mate-member size
@@ -55,10 +58,10 @@ module _ (s : Shape) (M : Mending s) (j i : ℕ) (b : j < groups s) (h : i < siz
       mate-is s P p inside k (mate-in k l)
       ∙ ap₂ (λ j i. slot-at s j (mate-member i k)) (group-slot-at s P j i b h) (member-slot-at s P j i b h)
 
-  pub symbols-part : (ws xs : List ℕ) → Of-group s j ws xs → part-mates s i xs ≡ symbols-of ws (mates s (slot-at s j i))
+  pub symbols-part : (ws xs : List ℕ) → Of-span s j ws xs → part-mates s i xs ≡ symbols-of ws (mates s (slot-at s j i))
   unfolding part-mates
   symbols-part ws xs Q =
-      let f : ℕ → ℕ = λ k. at xs (mate-member i k) in
+      let f : ℕ → ℕ = λ k. at xs (mate-member i k * step s) in
       ext-getD 0 (part-mates s i xs) (symbols-of ws (mates s p))
       (length-tabulate f (s .r) ∙ sym (length-symbols ws (mates s p) ∙ mates-number s M p inside))
       (λ k d. let l : k < s .r = omega (arith, length-tabulate f (s .r)) in
@@ -67,14 +70,14 @@ module _ (s : Shape) (M : Mending s) (j i : ℕ) (b : j < groups s) (h : i < siz
 
 pub length-mates-part : (s : Shape) (i : ℕ) (xs : List ℕ) → length (part-mates s i xs) ≡ s .r
 unfolding part-mates
-length-mates-part s i xs = length-tabulate (λ k. at xs (mate-member i k)) (s .r)
+length-mates-part s i xs = length-tabulate (λ k. at xs (mate-member i k * step s)) (s .r)
 
-module _ (s : Shape) (M : Mending s) (j : ℕ) (ms ns : List ℕ) (Q : Of-group s j ms ns) where
+module _ (s : Shape) (M : Mending s) (j : ℕ) (ms ns : List ℕ) (Q : Of-span s j ms ns) where
   pub lone-part : lone s ns ≡ mendable s ms j
   unfolding lone group-losses lost
   lone-part =
-      ap (λ n. eqb n 1) (count-same (lost ns) (λ i. lost ms (slot-at s j i)) (size s) (λ i h. ap (λ x. eqb x 1) (Q i h))) ∙ sym (mendable-one s (M .one) ms j)
+      ap (λ n. eqb n 1) (count-same (λ i. lost ns (i * step s)) (λ i. lost ms (slot-at s j i)) (size s) (λ i h. ap (λ x. eqb x 1) (Q i h))) ∙ sym (mendable-one s (M .one) ms j)
 
-  pub mends-part : j < groups s → (i : ℕ) → i < size s → lost ns i && lone s ns ≡ mends s ms (slot-at s j i)
+  pub mends-part : j < groups s → (i : ℕ) → i < size s → lost ns (i * step s) && lone s ns ≡ mends s ms (slot-at s j i)
   unfolding mends lost
   mends-part b i h = ap₂ _&&_ (ap (λ x. eqb x 1) (Q i h)) (lone-part ∙ ap (mendable s ms) (sym (group-slot-at s (M .placed) j i b h)))

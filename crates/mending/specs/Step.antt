@@ -1,33 +1,40 @@
--- What private steps of the local pass do, in one group's part of the word and the marks. Assumes nothing: these are definitions.
+-- What private steps of the local pass do, in one group's span of the word and the marks. Assumes nothing: these are definitions.
+-- Member i of the group stands at i × step of its span.
 --   lone s ms              == the group has lost just one slot
---   part-below s ws ms     == its kept symbols are below q, if it has
 --   part-mates s i ws      == the symbols of member i's mates
+--   Members-set s f xs ys  == ys has f's values at the group's members, and is xs else
 --   Group-mended s j ..    == what the pass does in group j
 use mathlib.Core.Path.{_≡_}
-use mathlib.Core.Bool.{Bool, cond, not, _&&_, _||_}
+use mathlib.Core.Logic.{_≢_}
+use mathlib.Core.Bool.{Bool, cond, _&&_}
 use mathlib.Core.List.{List}
-use Prim.Native.Nat.{ℕ}
+use Prim.Native.Nat.{ℕ, _*_, _<_}
 use lib.Dec.{eqb}
+use lib.ListN.{length}
 use Rattle.algebra.specs.Sequence.{at, tabulate, count}
-use Rattle.field.specs.Field.{q}
 use Rattle.code.specs.declared.Shape.{Shape}
-use Rattle.code.specs.Shape.{size, slot-at}
+use Rattle.code.specs.Shape.{size, step, slot-at}
 use Rattle.code.specs.Decoding.{lost}
-use Rattle.code.specs.Erasure.{symbols-below}
 use Rattle.code.specs.Repair.{repaired}
 use Rattle.layout.specs.Step.{mate-member}
 
 unfoldable pub lone : Shape → (marks : List ℕ) → Bool
-lone s ms = eqb (count (lost ms) (size s)) 1
-
-unfoldable pub part-below : Shape → (part marks : List ℕ) → Bool
-part-below s ws ms = not (lone s ms) || symbols-below (q (s .field)) ws ms (size s)
+lone s ms = eqb (count (λ i. lost ms (i * step s)) (size s)) 1
 
 unfoldable pub part-mates : Shape → (member : ℕ) → (part : List ℕ) → List ℕ
-part-mates s i ws = tabulate (λ k. at ws (mate-member i k)) (s .r)
+part-mates s i ws = tabulate (λ k. at ws (mate-member i k * step s)) (s .r)
+
+pub record Members-set (s : Shape) (f : ℕ → ℕ) (xs ys : List ℕ) : Type 0 where
+  pub same : length ys ≡ length xs
+  pub own : (i : ℕ) → i < size s → at ys (i * step s) ≡ f i
+  pub other : (p : ℕ) → ((i : ℕ) → i < size s → p ≢ i * step s) → at ys p ≡ at xs p
+
+-- entry i of the group's members in xs, or g's value where member i is its group's only loss
+abbrev pub instead : Shape → (marks : List ℕ) → (g : ℕ → ℕ) → (xs : List ℕ) → ℕ → ℕ
+instead s ms g xs i = cond (lost ms (i * step s) && lone s ms) (g i) (at xs (i * step s))
 
 -- ws and ms are the symbols and marks of group j before, ws′ and ms′ after, and x is how many groups were repaired
 pub record Group-mended (s : Shape) (j : ℕ) (ws ms : List ℕ) (x : ℕ) (ws′ ms′ : List ℕ) : Type 0 where
   pub number : x ≡ cond (lone s ms) 1 0
-  pub word : ws′ ≡ tabulate (λ i. cond (lost ms i && lone s ms) (repaired s (slot-at s j i) (part-mates s i ws)) (at ws i)) (size s)
-  pub marks : ms′ ≡ tabulate (λ i. cond (lost ms i && lone s ms) 0 (at ms i)) (size s)
+  pub word : Members-set s (instead s ms (λ i. repaired s (slot-at s j i) (part-mates s i ws)) ws) ws ws′
+  pub marks : Members-set s (instead s ms (λ i. 0) ms) ms ms′

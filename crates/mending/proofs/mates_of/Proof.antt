@@ -1,15 +1,18 @@
-use mathlib.Core.Path.{_≡_, sym, ap, _∙_}
+use borrow.Author.Needs.{needs}
+use mathlib.Core.Path.{_≡_, sym, ap, ap₂, _∙_}
 use mathlib.Core.List.{List}
-use Prim.Native.Nat.{ℕ, _-_, _≤_, _<_}
+use Prim.Native.Nat.{ℕ, _*_, _-_, _≤_, _<_}
 use native.Mathlib.Omega.{arith}
-use lib.ListN.{replicate}
+use lib.ListN.{length, replicate}
 use Rattle.algebra.specs.Sequence.{at}
 use Rattle.algebra.proofs.Tabulate.{at-tabulate}
 use Rattle.algebra.proofs.Filling.{Filled, filled-none, filled-more}
 use Rattle.code.specs.declared.Shape.{Shape}
-use Rattle.code.specs.Shape.{size}
-use Rattle.code.proofs.Bounds.{r-most}
-use Rattle.layout.specs.Step.{mate-member}
+use Rattle.code.specs.Shape.{step}
+use Rattle.code.proofs.Bounds.{r-most, n-most}
+use Rattle.code.proofs.Places.{groups-least, whole-room}
+use Rattle.layout.specs.Step.{mate-member, span}
+use Rattle.layout.proofs.Spans.{member-in-span, span-room}
 use Rattle.weights.proofs.Sixteen.{sixteen-of}
 use Rattle.mending.specs.Step.{part-mates}
 use Rattle.mending.proofs.Members.{mate-within, length-mates-part}
@@ -17,73 +20,92 @@ use Rattle.mending.proofs.mates_of.Statement.{statement}
 use Rattle.mending.proofs.mates_of.Tie as tie
 
 -- the symbol of mate k
-abbrev symbol-at : (part : List ℕ) → (member k : ℕ) → ℕ
-symbol-at xs i k = at xs (mate-member i k)
+abbrev symbol-at : (part : List ℕ) → (step member k : ℕ) → ℕ
+symbol-at xs t i k = at xs (mate-member i k * t)
 
 abbrev Inv-loop : tie.InvT-loop
-Inv-loop part member r symbols₀ i₀ symbols i = (i ≤ r) × Filled (symbol-at part member) i (replicate 16 0) symbols
+Inv-loop part member r step symbols₀ i₀ symbols i = (i ≤ r) × Filled (symbol-at part step member) i (replicate 16 0) symbols
 
 abbrev μ-loop : tie.MeasureT-loop
-μ-loop part member r symbols₀ i₀ symbols i = r - i
+μ-loop part member r step symbols₀ i₀ symbols i = r - i
+
+step-of-requires : tie.Need-step-of-requires Inv-loop μ-loop
+step-of-requires c κs = c .before .pre .0 .placed
 
 loop-holds : tie.Need-loop-holds Inv-loop μ-loop
-loop-holds c = let a = c .before .args in (omega arith, filled-none (symbol-at (a .part .now) (a .member)) (replicate 16 0))
+loop-holds c = let a = c .before .before .args in (omega arith, filled-none (symbol-at (a .part .now) (c .step-of .result) (a .member)) (replicate 16 0))
 
 mate-member-requires : tie.Need-mate-member-requires Inv-loop μ-loop
-mate-member-requires c κs = let s = c .before .before .before in omega (arith, r-most (s .args .shape) (s .pre .0 .placed))
+mate-member-requires c κs = let s = c .before .before .before .before in omega (arith, r-most (s .args .shape) (s .pre .0 .placed))
 
--- the mate is a member of the group
-mate-below : (c : tie.After-mate-member Inv-loop μ-loop) → let s = c .before .before .before .before in
-    (c .mate-member .result < size (s .args .shape)) × (size (s .args .shape) ≤ 17)
+-- the mate stands in the group's span, which is small
+mate-below : (c : tie.After-mate-member Inv-loop μ-loop) → let s = c .before .before .before .before .before in
+    (c .mate-member .result * c .before .before .before .step-of .result < length (s .args .part .now)) × (length (s .args .part .now) ≤ 255)
 mate-below c =
-    let s = c .before .before .before .before in
+    let s = c .before .before .before .before .before in
+    let h = s .args .shape in
     let M = s .pre .0 in
-    (omega (arith, c .mate-member .ensures, mate-within (s .args .shape) (M .one) (s .args .member) (c .before .before .loop .i) (c .before .loop-test .taken)), M .placed .size-most)
+    let m : ℕ = mate-member (s .args .member) (c .before .before .loop .i) in
+    let l = member-in-span h (M .placed) m (mate-within h (M .one) (s .args .member) (c .before .before .loop .i) (c .before .loop-test .taken)) in
+    let e : c .mate-member .result * c .before .before .before .step-of .result ≡ m * step h = ap₂ (λ a b. a * b) (c .mate-member .ensures) (c .before .before .before .step-of .ensures) in (
+      omega (arith, s .pre .2),
+      omega (arith, s .pre .2, span-room h (M .placed) 0 (groups-least h (M .placed)), whole-room h (M .placed) (M .whole-groups), n-most h (M .placed)),
+    )
+
+mul-symbols : tie.Need-mul-symbols Inv-loop μ-loop
+mul-symbols c = omega (arith, mate-below c)
 
 cast-symbols : tie.Need-cast-symbols Inv-loop μ-loop
 cast-symbols c = omega (arith, mate-below c)
 
 shared-slice-read-symbols : tie.Need-shared-slice-read-symbols Inv-loop μ-loop
-shared-slice-read-symbols c = omega (arith, mate-below (c .before), c .before .before .before .before .before .pre .2)
+shared-slice-read-symbols c = mate-below (c .before) .0
 
 cast-symbols-2 : tie.Need-cast-symbols-2 Inv-loop μ-loop
-cast-symbols-2 c = let s = c .before .before .before .before .before in omega (arith, r-most (s .args .shape) (s .pre .0 .placed))
+cast-symbols-2 c = let s = c .before .before .before .before .before .before in omega (arith, r-most (s .args .shape) (s .pre .0 .placed))
 
 array-write-symbols : tie.Need-array-write-symbols Inv-loop μ-loop
 array-write-symbols c =
-    let s = c .before .before .before .before .before in
+    let s = c .before .before .before .before .before .before in
     omega (arith, r-most (s .args .shape) (s .pre .0 .placed), c .before .before .before .loop .inv .1 .size)
 
 add-i : tie.Need-add-i Inv-loop μ-loop
-add-i c = let s = c .before .before .before .before .before in omega (arith, r-most (s .args .shape) (s .pre .0 .placed))
+add-i c = let s = c .before .before .before .before .before .before in omega (arith, r-most (s .args .shape) (s .pre .0 .placed))
 
 loop-less : tie.Need-loop-less Inv-loop μ-loop
 loop-less c = omega arith
 
 loop-again : tie.Need-loop-again Inv-loop μ-loop
 loop-again c =
-    let s = c .before .before .before .before .before in
+    let s = c .before .before .before .before .before .before in
     let a = s .args in
     let l = c .before .before .before .loop in
+    let t = c .before .before .before .before .step-of .result in
     let m = c .before .mate-member in (
       omega arith,
-      filled-more (symbol-at (a .part .now) (a .member)) (l .i) (at (a .part .now) (m .result)) (replicate 16 0) (l .symbols)
-          (omega (arith, r-most (a .shape) (s .pre .0 .placed), l .inv .1 .size)) (ap (at (a .part .now)) (m .ensures)) (l .inv .1),
+      filled-more (symbol-at (a .part .now) t (a .member)) (l .i) (at (a .part .now) (m .result * t)) (replicate 16 0) (l .symbols)
+          (omega (arith, r-most (a .shape) (s .pre .0 .placed), l .inv .1 .size)) (ap (λ k. at (a .part .now) (k * t)) (m .ensures)) (l .inv .1),
     )
 
 -- the symbols gathered are the list's
-gathered : (s : Shape) (i : ℕ) (xs ys zs : List ℕ) → Filled (symbol-at xs i) (s .r) ys zs → Filled (at (part-mates s i xs)) (s .r) ys zs
+gathered : (s : Shape) (i t : ℕ) → t ≡ step s → (xs ys zs : List ℕ) → Filled (symbol-at xs t i) (s .r) ys zs → Filled (at (part-mates s i xs)) (s .r) ys zs
 unfolding part-mates
-gathered s i xs ys zs F = record { size = F .size; below = λ k h. F .below k h ∙ sym (at-tabulate (symbol-at xs i) 0 (s .r) k h); above = F .above }
+gathered s i t e xs ys zs F =
+    record {
+      size = F .size;
+      below = λ k h. F .below k h ∙ ap (λ t. symbol-at xs t i k) e ∙ sym (at-tabulate (symbol-at xs (step s) i) 0 (s .r) k h);
+      above = F .above;
+    }
 
 returns : tie.Need-returns Inv-loop μ-loop
 returns c =
-    let a = c .before .before .before .args in
+    let a = c .before .before .before .before .args in
     let l = c .before .loop in
+    let t = c .before .before .step-of in
     let e : l .i ≡ a .shape .r = omega arith in
-    let F : Filled (symbol-at (a .part .now) (a .member)) (a .shape .r) (replicate 16 0) (l .symbols) = rw e at (l .inv .1) in
+    let F : Filled (symbol-at (a .part .now) (t .result) (a .member)) (a .shape .r) (replicate 16 0) (l .symbols) = rw e at (l .inv .1) in
     sixteen-of (part-mates (a .shape) (a .member) (a .part .now)) (a .shape .r) (l .symbols) (sym (length-mates-part (a .shape) (a .member) (a .part .now)))
-    (gathered (a .shape) (a .member) (a .part .now) (replicate 16 0) (l .symbols) F)
+    (gathered (a .shape) (a .member) (t .result) (t .ensures) (a .part .now) (replicate 16 0) (l .symbols) F)
 
 pub mates-of-spec : {M : Type 1} → statement M
 mates-of-spec =
@@ -91,8 +113,10 @@ mates-of-spec =
     (tie.spec
     Inv-loop
     μ-loop
+    step-of-requires
     loop-holds
     mate-member-requires
+    mul-symbols
     cast-symbols
     shared-slice-read-symbols
     cast-symbols-2
