@@ -4,7 +4,6 @@
 --   stands s ms j         == no more than its tolerance
 --   first-broken s ms     == the first group that does not stand, 255 if none
 --   grade s ms            == 0 nothing lost; 1 every group mends itself; 2 within the guarantee; 3 beyond
---   symbols-below m ws ms n  == every kept one of the first n symbols is below m
 --   kept-below s ws ms    == every kept symbol is below q
 use mathlib.Core.Bool.{Bool, cond, _||_}
 use mathlib.Core.List.{List}
@@ -39,8 +38,5 @@ grade s ms =
     (cond (every (stands s ms) (groups s)) 1
     (cond (leb (lost-number s ms) (guarantee s)) 2 3))
 
-abbrev pub symbols-below : (most : ℕ) → (word marks : List ℕ) → (number : ℕ) → Bool
-symbols-below m ws ms n = every (λ p. lost ms p || ltb (at ws p) m) n
-
 unfoldable pub kept-below : Shape → (word marks : List ℕ) → Bool
-kept-below s ws ms = symbols-below (q (s .field)) ws ms (s .n)
+kept-below s ws ms = every (λ p. lost ms p || ltb (at ws p) (q (s .field))) (s .n)

@@ -13,7 +13,7 @@ pub fn count_lost(shape: Shape, marks: &[u8]) -> u32
     requires { ⌜ Placed shape × (length (now marks) ≡ shape .n) ⌝ }
     ensures { λ x. ⌜ x ≡ lost-number shape (now (marks .entry)) ⌝ }
 {
-    questions::losses_in(marks) as u32
+    questions::losses_from(marks, 0, 1, shape.n as usize) as u32
 }
 
 // The first group with more losses than it stands, 255 if none.

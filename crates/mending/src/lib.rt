@@ -1,7 +1,7 @@
 // Groups that have lost one slot mend themselves: the repair of one group in its span of a word, and of every group.
 // A group's span is the stretch from its first member to its last; its members stand step apart in it.
 ghost use mathlib.Core.Path.{_≡_};
-ghost use Prim.Native.Nat.{ℕ, _+_, _*_, _<_};
+ghost use Prim.Native.Nat.{ℕ, _*_, _<_};
 ghost use lib.ListN.{length};
 ghost use Rattle.algebra.specs.Sequence.{at, count};
 ghost use Rattle.field.specs.Table.{Powers, Logs};
@@ -13,22 +13,6 @@ ghost use Rattle.layout.specs.Step.{span};
 ghost use Rattle.weights.specs.Weights.{sixteen};
 ghost use Rattle.mending.specs.Step.{part-mates, Group-mended};
 use code::Shape;
-
-// How many of so many marks are 1, from first on and step apart.
-pub fn losses_from(marks: &[u8], first: usize, step: usize, number: usize) -> usize
-    requires { ⌜ ((i : ℕ) → i < number → first + i * step < length (now marks)) ⌝ }
-    ensures { λ x. ⌜ x ≡ count (λ i. lost (now (marks .entry)) (first + i * step)) number ⌝ }
-{
-    let mut lost: usize = 0;
-    let mut i: usize = 0;
-    while i < number {
-        if marks[first + i * step] == 1 {
-            lost += 1;
-        }
-        i += 1;
-    }
-    lost
-}
 
 // Which of so many marks, step apart, is the only one that is 1.
 fn lost_member(marks: &[u8], step: usize, number: usize) -> usize
@@ -76,7 +60,7 @@ fn mend_group(
 {
     let size = layout::size_of(shape) as usize;
     let step = layout::step_of(shape) as usize;
-    if losses_from(marks, 0, step, size) != 1 {
+    if questions::losses_from(marks, 0, step, size) != 1 {
         return 0;
     }
     let i = lost_member(marks, step, size);

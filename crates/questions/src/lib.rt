@@ -1,12 +1,11 @@
 // The questions that calls ask one after another, and the tests of marks and symbols behind them.
 ghost use mathlib.Core.Path.{_≡_};
-ghost use Prim.Native.Nat.{_≤_};
+ghost use Prim.Native.Nat.{ℕ, _+_, _*_, _≤_, _<_};
 ghost use lib.ListN.{length};
-ghost use Rattle.algebra.specs.Sequence.{count, all-below};
+ghost use Rattle.algebra.specs.Sequence.{all-below};
 ghost use Rattle.code.specs.Question.{ask, or-ask};
-ghost use Rattle.code.specs.Decoding.{lost};
-ghost use Rattle.code.specs.Erasure.{symbols-below, kept-below};
-ghost use Rattle.questions.specs.Step.{Highest};
+ghost use Rattle.code.specs.Erasure.{kept-below};
+ghost use Rattle.questions.specs.Step.{Highest, losses-from, symbols-from};
 use code::Shape;
 
 // The first "no" decides: what was asked before, or the number where the answer is no.
@@ -65,30 +64,39 @@ pub fn strips_below(entries: &[u8], most: u32) -> bool
     (highest(entries) as u32) < most
 }
 
-// How many marks are 1.
-pub fn losses_in(marks: &[u8]) -> usize
-    ensures { λ x. ⌜ x ≡ count (lost (now (marks .entry))) (length (now (marks .entry))) ⌝ }
+// How many of so many marks are 1, from first on and step apart.
+pub fn losses_from(marks: &[u8], first: usize, step: usize, number: usize) -> usize
+    requires { ⌜ ((i : ℕ) → i < number → first + i * step < length (now marks)) ⌝ }
+    ensures { λ x. ⌜ x ≡ losses-from (now (marks .entry)) first step number ⌝ }
 {
-    let mut number: usize = 0;
+    let mut lost: usize = 0;
     let mut i: usize = 0;
-    while i < marks.len() {
-        if marks[i] == 1 {
-            number += 1;
+    while i < number {
+        if marks[first + i * step] == 1 {
+            lost += 1;
         }
         i += 1;
     }
-    number
+    lost
 }
 
-// Whether every kept symbol is below most.
-pub fn symbols_below(word: &[u8], marks: &[u8], most: u32) -> bool
-    requires { ⌜ length (now word) ≡ length (now marks) ⌝ }
-    ensures { λ x. ⌜ x ≡ symbols-below most (now (word .entry)) (now (marks .entry)) (length (now (marks .entry))) ⌝ }
+// Whether every kept one of so many symbols, from first on and step apart, is below most.
+pub fn symbols_from(
+    word: &[u8],
+    marks: &[u8],
+    first: usize,
+    step: usize,
+    number: usize,
+    most: u32,
+) -> bool
+    requires { ⌜ (length (now word) ≡ length (now marks)) × ((i : ℕ) → i < number → first + i * step < length (now marks)) ⌝ }
+    ensures { λ x. ⌜ x ≡ symbols-from most (now (word .entry)) (now (marks .entry)) first step number ⌝ }
 {
     let mut i: usize = 0;
-    while i < marks.len() {
-        if marks[i] != 1 {
-            if word[i] as u32 >= most {
+    while i < number {
+        let p = first + i * step;
+        if marks[p] != 1 {
+            if word[p] as u32 >= most {
                 return false;
             }
         }
@@ -102,5 +110,12 @@ pub fn kept_below(shape: Shape, word: &[u8], marks: &[u8]) -> bool
     requires { ⌜ (length (now word) ≡ shape .n) × (length (now marks) ≡ shape .n) ⌝ }
     ensures { λ x. ⌜ x ≡ kept-below shape (now (word .entry)) (now (marks .entry)) ⌝ }
 {
-    symbols_below(word, marks, tables::order(shape.field))
+    symbols_from(
+        word,
+        marks,
+        0,
+        1,
+        shape.n as usize,
+        tables::order(shape.field),
+    )
 }

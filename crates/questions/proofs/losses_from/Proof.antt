@@ -8,8 +8,8 @@ use borrow.Author.Tests.{eq-eqb, ne-eqb}
 use Rattle.algebra.specs.Sequence.{at, count}
 use Rattle.algebra.proofs.Counting.{count-zero, count-yes, count-no, count-most}
 use Rattle.code.specs.Decoding.{lost}
-use Rattle.mending.proofs.losses_from.Statement.{statement}
-use Rattle.mending.proofs.losses_from.Tie as tie
+use Rattle.questions.proofs.losses_from.Statement.{statement}
+use Rattle.questions.proofs.losses_from.Tie as tie
 
 -- the mark of member i
 abbrev lost-at : (marks : List ℕ) → (first step i : ℕ) → Bool
