@@ -40,8 +40,7 @@ mend-groups-requires c κs =
     let s = c .before .before .before .before .before .before .before .before .before .before .before .before in
     let a = s .args in
     let P = pass-passed (a .refusal) (a .shape) (a .word .now) (a .marks .now) (zero (c .before .before .before .before .before .before)) in
-    let L = s .pre (P .accepted) in
-    (c .before .before .before .before .before .power-table .ensures, c .before .before .before .before .log-table .ensures, L .0, L .1, P .word-length, P .marks-length)
+    (c .before .before .before .before .before .power-table .ensures, c .before .before .before .before .log-table .ensures, s .pre (P .accepted), P .word-length, P .marks-length)
 
 same-length-3 : tie.Need-same-length-3
 same-length-3 c = search needs

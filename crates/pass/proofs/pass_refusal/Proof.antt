@@ -68,8 +68,7 @@ pass-below-requires c κs =
     let s = b .before .before .before .before .before .before in
     let a = s .args in
     let t = passed (a .refusal) (a .shape) (a .word .now) (a .marks .now) (b .ask2 .result) (lengths-asked b) (c .before .before .if1 .left) in
-    let L = s .pre (t .0) in
-    (L .0, L .1, t .1, t .2)
+    (s .pre (t .0), t .1, t .2)
 
 ask-requires-4 : tie.Need-ask-requires-4
 ask-requires-4 c κs = search needs
