@@ -1,7 +1,7 @@
 -- All statements of specs/Promise.antt are proved. Assumes nothing.
 --   promises    each of them
 use mathlib.Core.Path.{_≡_, refl, sym, ap, _∙_}
-use mathlib.Core.Bool.{cond}
+use mathlib.Core.Bool.{cond, not}
 use mathlib.Core.List.{[]}
 use native.Mathlib.Omega.{arith}
 use borrow.Author.Tests.{lt-ltb, eq-eqb}
@@ -9,23 +9,27 @@ use lib.ListN.{length}
 use denote.Ref.{now}
 use Rattle.algebra.specs.Sequence.{at}
 use Rattle.code.specs.Shape.{size, group, first}
-use Rattle.code.proofs.Questions.{ask-yes, or-ask-on}
+use Rattle.code.proofs.Questions.{ask-no, ask-yes, or-ask-on}
 use Rattle.code.proofs.Places.{n-room, group-below}
 use Rattle.code.proofs.Parts.{length-part, group-room, part-of}
 use Rattle.view.specs.View.{view-refusal, part}
-use Rattle.view.specs.Promise.{View-holds, Promises}
+use Rattle.view.specs.Promise.{View-holds, Wired-no-view, Promises}
 
 pub view-holds : View-holds
 unfolding View-holds view-refusal part
 view-holds s p word view M unwired l h says =
     let P = M .placed in
     let j = group s p in
-    let z : view-refusal 0 s p (now word) ≡ 0 = sym (or-ask-on 0 _ 0 refl (ask-yes 5 (eq-eqb (length (now word)) (s .n) l) (ask-yes 7 (lt-ltb p (s .n) h) refl))) in
+    let z : view-refusal 0 s p (now word) ≡ 0 = sym (or-ask-on 0 _ 0 refl (ask-yes 18 (ap not unwired) (ask-yes 5 (eq-eqb (length (now word)) (s .n) l) (ask-yes 7 (lt-ltb p (s .n) h) refl)))) in
     let w = says .symbols ∙ ap (λ b. cond b (part s j (now word)) []) (eq-eqb (view-refusal 0 s p (now word)) 0 z) in
     let g = group-below s P p (omega (arith, n-room s P)) in (
       ap (λ ws. length ws) w ∙ length-part (first s j) (size s) (now word) (omega (arith, group-room s unwired P (M .whole-groups) j g)),
       λ i b. ap (λ ws. at ws i) w ∙ part-of s unwired j (first s j) (size s) (now word) refl refl i b,
     )
 
+pub wired-no-view : Wired-no-view
+unfolding Wired-no-view view-refusal
+wired-no-view s p ws e = sym (or-ask-on 0 _ 18 refl (ask-no 18 _ (ap not e)))
+
 pub promises : Promises
-promises = record { view-holds = view-holds }
+promises = record { view-holds = view-holds; wired-no-view = wired-no-view }

@@ -1,7 +1,5 @@
 // The group view: the part of a word that is a slot's repair group.
 ghost use mathlib.Core.Path.{_≡_};
-ghost use mathlib.Core.Bool.{false};
-ghost use Rattle.code.specs.Shape.{wired};
 ghost use Rattle.code.specs.Family.{single, code-refusal};
 ghost use Rattle.code.specs.Answer.{Answers};
 ghost use Rattle.code.specs.Laws.{Mending};
@@ -14,13 +12,14 @@ use code::Shape;
 pub fn group_view_refusal_with(refusal: u32, shape: Shape, slot: u32, word: &[u8]) -> u32
     ensures { λ x. ⌜ x ≡ view-refusal refusal shape slot (now (word .entry)) ⌝ }
 {
-    let a = questions::ask(refusal, word.len() == shape.n as usize, 5);
-    questions::ask(a, slot < shape.n, 7)
+    let a = questions::ask(refusal, shape.wiring != 1, 18);
+    let b = questions::ask(a, word.len() == shape.n as usize, 5);
+    questions::ask(b, slot < shape.n, 7)
 }
 
-// The group view over any shape whose groups stand one after the other.
+// The group view over any shape of whole groups.
 pub fn group_view_with(refusal: u32, shape: Shape, slot: u32, word: &[u8]) -> &[u8]
-    requires { ⌜ (refusal ≡ 0 → Mending shape × (wired shape ≡ false)) ⌝ }
+    requires { ⌜ (refusal ≡ 0 → Mending shape) ⌝ }
     ensures { λ x. ⌜ View-says refusal shape slot (word .entry) x ⌝ }
 {
     let refused = group_view_refusal_with(refusal, shape, slot, word);

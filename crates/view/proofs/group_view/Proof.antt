@@ -1,6 +1,6 @@
 use borrow.Author.Needs.{needs}
 use mathlib.Core.Path.{sym, _∙_}
-use Rattle.code.proofs.Accepted.{decodable-of, mending-of}
+use Rattle.code.proofs.Accepted.{mending-of}
 use Rattle.view.proofs.group_view.Statement.{statement}
 use Rattle.view.proofs.group_view.Tie as tie
 
@@ -14,7 +14,7 @@ group-view-with-requires : tie.Need-group-view-with-requires
 group-view-with-requires c κs =
     let code = c .before .before .before .args .code in
     λ e. let z = sym (c .before .code-refusal .ensures) ∙ e in
-    rw (c .single .ensures) (mending-of code z, decodable-of code z .unwired)
+    rw (c .single .ensures) (mending-of code z)
 
 returns : tie.Need-returns
 returns c = rw (c .before .before .code-refusal .ensures, c .before .single .ensures) at (c .group-view-with .ensures)

@@ -34,7 +34,7 @@ passed : (c : tie.Else1) → let a = c .before .before .before .args in View-pas
 passed c = let a = c .before .before .before .args in view-passed (a .refusal) (a .shape) (a .slot) (a .word .now) (zero c)
 
 lawful : (c : tie.Else1) → let a = c .before .before .before .args in Mending (a .shape) × (wired (a .shape) ≡ false)
-lawful c = c .before .before .before .pre (passed c .accepted)
+lawful c = (c .before .before .before .pre (passed c .accepted), passed c .unwired)
 
 group-of-requires : tie.Need-group-of-requires
 group-of-requires c κs = (lawful c .0 .placed, passed c .slot-below)
