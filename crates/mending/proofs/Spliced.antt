@@ -1,7 +1,8 @@
 -- A group's span that is lent out of the word or the marks and comes back, group after group. Assumes nothing.
 --   Upto s f j a z      == the buffer a has become z: the slots of the groups before j have f's values, the others are unchanged
 --   upto-none, upto-all    no group yet; all of them
---   span-left           the span of the next group is as it came, at its members
+--   length-lent, lent-span    a group's span, lent out of a buffer
+--   span-left           that of the next group is as it came, at its members
 --   upto-more           one group more
 use mathlib.Core.Path.{_≡_, refl, sym, ap, _∙_}
 use mathlib.Core.Logic.{_≢_}
@@ -38,19 +39,9 @@ module _ (s : Shape) (f : ℕ → ℕ) where
       (λ p h. U .done p h (omega (arith, group-below s (M .placed) p (omega (arith, n-room s (M .placed))))))
 
 -- the span of group j is the k entries from m on
-module _ (s : Shape) (M : Mending s) (j m k : ℕ) (b : j < groups s) (e : first s j ≡ m) (d : span s ≡ k) (a z : List ℕ) (l : length a ≡ s .n) (f : ℕ → ℕ) (U : Upto s f j a z) where
-  part : List ℕ
-  part = take k (drop m z)
-
-  within : m + k ≤ length z
-  within = omega (arith, U .same, span-room s (M .placed) j b, whole-room s (M .placed) (M .whole-groups))
-
-  pub length-lent : length (take k (drop m z)) ≡ span s
-  length-lent = length-take-le k (drop m z) (omega (arith, within, length-drop m z)) ∙ sym d
-
-  part-at : (i : ℕ) → i < k → at part i ≡ at z (m + i)
-  unfolding part
-  part-at i h = getD-take k (drop m z) i 0 h ∙ getD-drop m z i 0
+module _ (s : Shape) (M : Mending s) (j m k : ℕ) (b : j < groups s) (e : first s j ≡ m) (d : span s ≡ k) where
+  span-within : m + k ≤ s .n
+  span-within = omega (arith, span-room s (M .placed) j b, whole-room s (M .placed) (M .whole-groups))
 
   slot : (i : ℕ) → slot-at s j i ≡ m + i * step s
   unfolding slot-at
@@ -62,24 +53,36 @@ module _ (s : Shape) (M : Mending s) (j m k : ℕ) (b : j < groups s) (e : first
   member-inside : (i : ℕ) → i < size s → i * step s < k
   member-inside i h = omega (arith, member-in-span s (M .placed) i h, d)
 
+  module _ (z : List ℕ) where
+    pub length-lent : length z ≡ s .n → length (take k (drop m z)) ≡ span s
+    length-lent l = length-take-le k (drop m z) (omega (arith, span-within, length-drop m z)) ∙ sym d
+
+    lent-at : (i : ℕ) → i < k → at (take k (drop m z)) i ≡ at z (m + i)
+    lent-at i h = getD-take k (drop m z) i 0 h ∙ getD-drop m z i 0
+
+    pub lent-span : Of-span s j z (take k (drop m z))
+    lent-span i h = lent-at (i * step s) (member-inside i h) ∙ ap (at z) (sym (slot i))
+
+module _ (s : Shape) (M : Mending s) (j m k : ℕ) (b : j < groups s) (e : first s j ≡ m) (d : span s ≡ k) (a z : List ℕ) (l : length a ≡ s .n) (f : ℕ → ℕ) (U : Upto s f j a z) where
+  within : m + k ≤ length z
+  within = omega (arith, U .same, span-within s M j m k b e d)
+
   -- at its members it is as it came
   pub span-left : Of-span s j a (take k (drop m z))
-  unfolding part
   span-left i h =
-      part-at (i * step s) (member-inside i h) ∙ ap (at z) (sym (slot i))
-      ∙ U .left (slot-at s j i) (slot-inside i h) (omega (arith, group-slot-at s (M .placed) j i b h))
+      lent-span s M j m k b e d z i h
+      ∙ U .left (slot-at s j i) (slot-inside s M j m k b e d i h) (omega (arith, group-slot-at s (M .placed) j i b h))
 
   module _ (g : ℕ → ℕ) (part′ : List ℕ) (G : Members-set s g (take k (drop m z)) part′) where
     long : length part′ ≡ k
-    long = G .same ∙ length-lent ∙ d
+    long = G .same ∙ length-lent s M j m k b e d z (U .same ∙ l) ∙ d
 
     -- slots of other groups
     elsewhere : (p : ℕ) → group s p ≢ j → at (splice m k z part′) p ≡ at z p
-    unfolding part
     elsewhere p n = go (decLt p m) (decLt p (m + k))
       where
         apart : (i : ℕ) → i < size s → p - m ≡ i * step s → m ≤ p → ⊥
-        apart i h t o = n (ap (group s) (omega (arith, slot i)) ∙ group-slot-at s (M .placed) j i b h)
+        apart i h t o = n (ap (group s) (omega (arith, slot s M j m k b e d i)) ∙ group-slot-at s (M .placed) j i b h)
 
         go : Dec (p < m) → Dec (p < m + k) → at (splice m k z part′) p ≡ at z p
         go (yes h) q = spliced-out m k z part′ within long p (λ i u v. omega arith)
@@ -87,7 +90,7 @@ module _ (s : Shape) (M : Mending s) (j m k : ℕ) (b : j < groups s) (e : first
         go (no h) (yes q) =
             let t : p ≡ m + (p - m) = omega arith in
             ap (at (splice m k z part′)) t ∙ spliced-in m k z part′ within long (p - m) (omega arith)
-            ∙ G .other (p - m) (λ i u v. apart i u v (omega arith)) ∙ part-at (p - m) (omega arith) ∙ ap (at z) (sym t)
+            ∙ G .other (p - m) (λ i u v. apart i u v (omega arith)) ∙ lent-at s M j m k b e d z (p - m) (omega arith) ∙ ap (at z) (sym t)
 
     pub upto-more : ((i : ℕ) → i < size s → g i ≡ f (slot-at s j i)) → Upto s f (j + 1) a (splice m k z part′)
     upto-more same =
@@ -102,7 +105,7 @@ module _ (s : Shape) (M : Mending s) (j m k : ℕ) (b : j < groups s) (e : first
             let i : ℕ = member s p in
             let o : i < size s = member-below s (M .placed) p (omega (arith, n-room s (M .placed))) in
             let w : slot-at s j i ≡ p = ap (λ j. slot-at s j i) (sym t) ∙ slot-group-member s (M .placed) p in
-            ap (at (splice m k z part′)) (sym w ∙ slot i) ∙ spliced-in m k z part′ within long (i * step s) (member-inside i o)
+            ap (at (splice m k z part′)) (sym w ∙ slot s M j m k b e d i) ∙ spliced-in m k z part′ within long (i * step s) (member-inside s M j m k b e d i o)
             ∙ G .own i o ∙ same i o ∙ ap f w
 
         go : (p : ℕ) → p < s .n → group s p < j + 1 → Dec (group s p ≡ j) → at (splice m k z part′) p ≡ f p

@@ -30,7 +30,7 @@ fn lost_member(marks: &[u8], step: usize, number: usize) -> usize
 }
 
 // The symbols of a group's span at the mates of a member, with zeros after them.
-fn mates_of(shape: Shape, part: &[u8], member: u32) -> [u8; 16]
+pub fn mates_of(shape: Shape, part: &[u8], member: u32) -> [u8; 16]
     requires { ⌜ Mending shape × (member < size shape) × (length (now part) ≡ span shape) ⌝ }
     ensures { λ x. ⌜ x ≡ sixteen (part-mates shape member (now (part .entry))) ⌝ }
 {

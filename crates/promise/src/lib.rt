@@ -93,8 +93,10 @@ pub fn encode_lose_repair(
         return Answer { refusal, value: 0 };
     }
     let shape = layout::single(code);
-    let part = view::group_view(code, slot, word);
-    let mates = mending::mates_of(shape, part, layout::member_of(shape, slot));
+    let start = layout::first_of(shape, layout::group_of(shape, slot)) as usize;
+    let end = start + layout::span_of(shape) as usize;
+    let member = layout::member_of(shape, slot);
+    let mates = mending::mates_of(shape, &word[start..end], member);
     let r = code.r as usize;
     repair::repair(code, slot, &mates[..r])
 }

@@ -106,21 +106,18 @@ mend-group-requires : tie.Need-mend-group-requires Inv-loop μ-loop
 mend-group-requires c κs =
     let f = c .before .before in
     let s = f .before .before .before .before .before .before .before in
-    let a = s .args in
-    let h = a .shape in
+    let h = s .args .shape in
     let l = f .before .before .loop in
     let m = f .first-of in
-    let D = l .inv .1 in
     let b = inside (f .before) in
     let k = m .result + f .before .before .before .before .span-of .result - m .result in
-    let ws = a .word .now in
-    let ms = a .marks .now in (
+    let e = lengths (f .before .before) in (
       s .pre .0,
       s .pre .1,
       s .pre .2,
       b,
-      length-lent h (s .pre .2) (l .j) (m .result) k b (sym (m .ensures)) (lent f) ws (l .word) (s .pre .3) (passed-at h ws ms) (D .word),
-      length-lent h (s .pre .2) (l .j) (m .result) k b (sym (m .ensures)) (lent f) ms (l .marks) (s .pre .4) (mark-at h ms) (D .marks),
+      length-lent h (s .pre .2) (l .j) (m .result) k b (sym (m .ensures)) (lent f) (l .word) (e .0),
+      length-lent h (s .pre .2) (l .j) (m .result) k b (sym (m .ensures)) (lent f) (l .marks) (e .1),
     )
 
 -- one group more

@@ -8,7 +8,7 @@ use Rattle.solving.proofs.solve_mended.Tie as tie
 mend-groups-requires : tie.Need-mend-groups-requires
 mend-groups-requires c κs =
     let s = c .before .before .before .before .before in
-    (s .pre .3, s .pre .4, mending (s .args .shape) (s .pre .0), s .pre .0 .unwired, s .pre .1 .word, s .pre .1 .marks)
+    (s .pre .3, s .pre .4, mending (s .args .shape) (s .pre .0), s .pre .1 .word, s .pre .1 .marks)
 
 count-lost-requires : tie.Need-count-lost-requires
 count-lost-requires c κs =
