@@ -28,10 +28,11 @@ use Rattle.code.specs.Erasure.{kept-below}
 use Rattle.code.specs.declared.Code.{Code}
 use Rattle.code.proofs.Questions.{asked, ask-yes, or-ask-on, or-ask-passed}
 use Rattle.code.proofs.Answers.{fills-no, fills-yes}
-use Rattle.code.proofs.Accepted.{plain-of}
+use Rattle.code.proofs.Accepted.{good-of, plain-of}
 use Rattle.code.proofs.Bounds.{r-most, n-most, k-most}
 use Rattle.sheet.specs.declared.Sheet.{Sheet}
 use Rattle.words.specs.Word.{word-at, kind, end-word, slot-fits, word-symbol, word-mark}
+use Rattle.words.specs.Step.{Narrow}
 use Rattle.sheet.specs.Sheet.{middle-word, code-in, symbols-in, marks-in}
 use Rattle.sheet.specs.Calls.{body-refusal, sheet-refusal, read-refusal, write-refusal, no-code, Read-says}
 
@@ -99,12 +100,12 @@ kept-is s =
     (at-tabulate (λ p. word-symbol (middle-word s p)) 0 (c .n) p h)))
 
 -- an accepted code's numbers fit their bits
-pub small-code : (c : Code) → code-refusal c ≡ 0 → (c .field < 16) × (c .r < 256) × (c .n < 256) × (c .k < 256)
+pub small-code : (c : Code) → code-refusal c ≡ 0 → Narrow c
 small-code c e =
     let s = single c in
     let L = plain-of c e in
     let P = L .family .placed in
-    (omega (arith, P .field-most), omega (arith, r-most s P), omega (arith, n-most s P), omega (arith, k-most s L))
+    (omega (arith, good-of c e .wiring-most), omega (arith, P .field-most), omega (arith, r-most s P), omega (arith, n-most s P), omega (arith, k-most s L))
 
 -- what the reader leaves behind
 module _ (s a d : List ℕ) (x : Sheet) where

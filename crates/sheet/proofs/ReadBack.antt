@@ -23,6 +23,7 @@ use Rattle.code.specs.declared.Code.{Code}
 use Rattle.words.specs.Word.{word-at, kind, code-word, end-word, slot-word, word-code, slot-fits, word-symbol, word-mark}
 use Rattle.sheet.specs.Sheet.{middle-word, sheet-words, sheet-of, code-in, symbols-in, marks-in}
 use Rattle.sheet.specs.Promise.{Sheet-length, Reads-back}
+use Rattle.words.specs.Step.{Narrow}
 use Rattle.words.proofs.Words.{kind-code, code-of-word}
 use Rattle.words.proofs.Slots.{made, made-mark, made-symbol, made-fits, made-below}
 use Rattle.words.proofs.Bytes.{length-bytes}
@@ -47,7 +48,7 @@ sheet-length c ws ms = length-bytes (sheet-words c ws ms) ∙ ap (λ n. 4 * n) (
 
 -- what the reader finds in a written sheet
 module _ (c : Code) (ws ms : List ℕ) (g : Good-stripe c ws ms (4 * (c .n + 2))) where
-  small : (c .field < 16) × (c .r < 256) × (c .n < 256) × (c .k < 256)
+  small : Narrow c
   small = small-code c (g .code)
 
   kept : (p : ℕ) → p < c .n → T (lost ms p || ltb (at ws p) (q (c .field)))

@@ -21,6 +21,7 @@ use Rattle.code.specs.declared.Code.{Code}
 use Rattle.words.specs.Word.{word-at, kind, code-word, end-word, kept-word, slot-word, bytes, slot-fits, word-symbol, word-mark}
 use Rattle.sheet.specs.Sheet.{middle-word, sheet-words, sheet-of, code-in, symbols-in, marks-in}
 use Rattle.sheet.specs.Promise.{Writes-back, One-sheet}
+use Rattle.words.specs.Step.{Narrow}
 use Rattle.words.proofs.Words.{word-of-code}
 use Rattle.words.proofs.Slots.{made, made-back}
 use Rattle.words.proofs.Rows.{bytes-words}
@@ -58,7 +59,7 @@ module _ (s : List ℕ) (g : Good-sheet s) where
 
 -- the words that the writer makes of what the reader found are the sheet's
 module _ (s : List ℕ) (bytes-of : T (all-below 256 s)) (g : Good-sheet s) where
-  code-fits : (code-in s .field < 16) × (code-in s .r < 256) × (code-in s .n < 256) × (code-in s .k < 256)
+  code-fits : Narrow (code-in s)
   code-fits = small-code (code-in s) (g .code)
 
   again : (p : ℕ) → p < code-in s .n → slot-word (symbols-in s) (marks-in s) p ≡ middle-word s p

@@ -2,7 +2,7 @@
 --   body-refusal, sheet-refusal s    == the questions on a sheet's words; on all its bytes
 --   read-refusal s a b               == the reader's questions, for buffers of a and b bytes
 --   write-refusal c ws ms l          == the writer's, for a sheet of l bytes
---   no-code                          == the code of a refused sheet: four zeros
+--   no-code                          == the code of a refused sheet: five zeros
 --   Read-says, Write-says            == the answer, and every byte of every buffer
 use mathlib.Core.Path.{_≡_}
 use mathlib.Core.Bool.{cond, _&&_}
@@ -27,7 +27,7 @@ body-refusal c s =
     (ask (every (λ p. slot-fits p (middle-word s p)) (c .n)) 14
     (ask (kept-below (single c) (symbols-in s) (marks-in s)) 6 (ask (eqb (word-at s (c .n + 1)) (end-word (c .n))) 15 0)))
 
--- 11, 12, then 1 to 4, then the body's
+-- 11, 12, then 1 to 4 and 17, then the body's
 unfoldable pub sheet-refusal : (sheet : List ℕ) → ℕ
 sheet-refusal s =
     ask (eqb (length s % 4) 0) 11
@@ -37,7 +37,7 @@ sheet-refusal s =
 unfoldable pub read-refusal : (sheet : List ℕ) → (word marks : ℕ) → ℕ
 read-refusal s a b = ask (leb 255 a && leb 255 b) 5 (sheet-refusal s)
 
--- 1 to 4, then 5, 8, 6
+-- 1 to 4 and 17, then 5, 8, 6
 unfoldable pub write-refusal : Code → (word marks : List ℕ) → (sheet : ℕ) → ℕ
 write-refusal c ws ms l =
     or-ask (code-refusal c)
@@ -45,7 +45,7 @@ write-refusal c ws ms l =
     (ask (all-below 2 ms) 8 (ask (kept-below (single c) ws ms) 6 0)))
 
 unfoldable pub no-code : Code
-no-code = record { field = 0; r = 0; n = 0; k = 0 }
+no-code = record { field = 0; r = 0; n = 0; k = 0; wiring = 0 }
 
 -- the first n bytes of both buffers are written; a and d are the buffers before, b and e after
 pub record Read-says (s a b d e : List ℕ) (x : Sheet) : Type 0 where

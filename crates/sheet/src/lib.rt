@@ -137,6 +137,7 @@ fn refused(refusal: u32) -> Sheet
         r: 0,
         n: 0,
         k: 0,
+        wiring: 0,
     };
     Sheet { refusal, code }
 }

@@ -12,7 +12,9 @@ use lib.Dec.{eqb}
 use borrow.Author.Tests.{eq-eqb, ne-eqb}
 use Rattle.algebra.proofs.Equality.{Same, same, other, same?}
 use Rattle.code.specs.declared.Code.{Code}
+use Rattle.code.specs.Family.{code-of}
 use Rattle.words.specs.Word.{word, word-bytes, kind, code-word, kept-word, lost-word, word-code, slot-fits}
+use Rattle.words.specs.Step.{Narrow}
 
 pub eqb-same : (a b c d : ℕ) → (a ≡ b → c ≡ d) → (c ≡ d → a ≡ b) → eqb a b ≡ eqb c d
 eqb-same a b c d f g = go (eqb a b) (same? a b)
@@ -63,25 +65,24 @@ bytes-of-word a b c d i j k l =
     cc
 
 -- the code of a code word, and the word of its code
-pub code-same : (c d : Code) → c .field ≡ d .field → c .r ≡ d .r → c .n ≡ d .n → c .k ≡ d .k → c ≡ d
-code-same c d e₁ e₂ e₃ e₄ =
-    ap₂ (λ f r. make f r (c .n) (c .k)) e₁ e₂ ∙ ap₂ (λ n k. make (d .field) (d .r) n k) e₃ e₄
-  where
-    make : (f r n k : ℕ) → Code
-    make f r n k = record { field = f; r = r; n = n; k = k }
+code-same : (c d : Code) → c .field ≡ d .field → c .r ≡ d .r → c .n ≡ d .n → c .k ≡ d .k → c .wiring ≡ d .wiring → c ≡ d
+code-same c d e₁ e₂ e₃ e₄ e₅ =
+    ap₂ (λ f r. code-of f r (c .n) (c .k) (c .wiring)) e₁ e₂ ∙ ap₂ (λ n k. code-of (d .field) (d .r) n k (c .wiring)) e₃ e₄
+    ∙ ap (code-of (d .field) (d .r) (d .n) (d .k)) e₅
 
-pub kind-code : (c : Code) → (c .field < 16) × (c .r < 256) × (c .n < 256) × (c .k < 256) → kind (code-word c) ≡ 1
+pub kind-code : (c : Code) → Narrow c → kind (code-word c) ≡ 1
 unfolding code-word
 kind-code c b = omega arith
 
-pub code-of-word : (c : Code) → (c .field < 16) × (c .r < 256) × (c .n < 256) × (c .k < 256) → word-code (code-word c) ≡ c
+pub code-of-word : (c : Code) → Narrow c → word-code (code-word c) ≡ c
 unfolding code-word
-code-of-word c b = code-same (word-code (code-word c)) c (omega arith) (omega arith) (omega arith) (omega arith)
+code-of-word c b = code-same (word-code (code-word c)) c (omega arith) (omega arith) (omega arith) (omega arith) (omega arith)
 
 pub word-of-code : (w : ℕ) → kind w ≡ 1 → code-word (word-code w) ≡ w
 unfolding code-word
 word-of-code w e =
     let e₁ : w / 0x10000 ≡ w / 256 / 256 = omega arith in
     let e₂ : w / 0x1000000 ≡ w / 0x10000 / 256 = omega arith in
-    let e₃ : w / 0x10000000 ≡ w / 0x1000000 / 16 = omega arith in
+    let e₃ : w / 0x8000000 ≡ w / 0x1000000 / 8 = omega arith in
+    let e₄ : w / 0x10000000 ≡ w / 0x8000000 / 2 = omega arith in
     omega arith

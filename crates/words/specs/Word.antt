@@ -31,9 +31,9 @@ word-at s i = word (at s (4 * i)) (at s (4 * i + 1)) (at s (4 * i + 2)) (at s (4
 abbrev pub kind : ℕ → ℕ
 kind w = w / 0x10000000
 
--- kind 1: bits 27 to 24 field, 23 to 16 r, 15 to 8 n, 7 to 0 k
+-- kind 1: bit 27 wiring, 26 to 24 field, 23 to 16 r, 15 to 8 n, 7 to 0 k
 unfoldable pub code-word : Code → ℕ
-code-word c = 0x10000000 + c .field * 0x1000000 + c .r * 0x10000 + c .n * 256 + c .k
+code-word c = 0x10000000 + c .wiring * 0x8000000 + c .field * 0x1000000 + c .r * 0x10000 + c .n * 256 + c .k
 
 -- kind 2: bits 15 to 8 slot, 7 to 0 symbol
 unfoldable pub kept-word : (slot symbol : ℕ) → ℕ
@@ -55,7 +55,8 @@ unfoldable pub slot-fits : (slot w : ℕ) → Bool
 slot-fits p w = eqb w (kept-word p (w % 256)) || eqb w (lost-word p)
 
 abbrev pub word-code : ℕ → Code
-word-code w = record { field = w / 0x1000000 % 16; r = w / 0x10000 % 256; n = w / 256 % 256; k = w % 256 }
+word-code w =
+    record { field = w / 0x1000000 % 8; r = w / 0x10000 % 256; n = w / 256 % 256; k = w % 256; wiring = w / 0x8000000 % 2 }
 
 unfoldable pub word-symbol : ℕ → ℕ
 word-symbol w = cond (eqb (kind w) 3) 0 (w % 256)

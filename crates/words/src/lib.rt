@@ -5,7 +5,7 @@ ghost use Prim.Native.Nat.{_+_, _*_, _≤_, _<_};
 ghost use lib.ListN.{length};
 ghost use Rattle.code.specs.Decoding.{lost};
 ghost use Rattle.words.specs.Word.{word, word-at, kind, code-word, end-word, slot-word, word-code, slot-fits, word-symbol, word-mark};
-ghost use Rattle.words.specs.Step.{put-word};
+ghost use Rattle.words.specs.Step.{Narrow, put-word};
 use code::Code;
 
 // The word of four bytes, the high byte first.
@@ -45,10 +45,11 @@ pub fn kind_of(w: u32) -> u32
 
 // The word of a code.
 pub fn code_word(code: Code) -> u32
-    requires { ⌜ (code .field < 16) × (code .r < 256) × (code .n < 256) × (code .k < 256) ⌝ }
+    requires { ⌜ Narrow code ⌝ }
     ensures { λ w. ⌜ w ≡ code-word code ⌝ }
 {
-    0x1000_0000 + code.field * 0x100_0000 + code.r * 0x1_0000 + code.n * 256 + code.k
+    let wired = 0x1000_0000 + code.wiring * 0x800_0000;
+    wired + code.field * 0x100_0000 + code.r * 0x1_0000 + code.n * 256 + code.k
 }
 
 // The word that ends a sheet.
@@ -77,10 +78,11 @@ pub fn word_code(w: u32) -> Code
     ensures { λ c. ⌜ c ≡ word-code w ⌝ }
 {
     Code {
-        field: w / 0x100_0000 % 16,
+        field: w / 0x100_0000 % 8,
         r: w / 0x1_0000 % 256,
         n: w / 256 % 256,
         k: w % 256,
+        wiring: w / 0x800_0000 % 2,
     }
 }
 

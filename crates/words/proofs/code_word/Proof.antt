@@ -4,6 +4,12 @@ use borrow.Author.Needs.{needs}
 use Rattle.words.proofs.code_word.Statement.{statement}
 use Rattle.words.proofs.code_word.Tie as tie
 
+mul-wired : tie.Need-mul-wired
+mul-wired c = search needs
+
+add-wired : tie.Need-add-wired
+add-wired c = search needs
+
 mul-result : tie.Need-mul-result
 mul-result c = search needs
 
@@ -33,6 +39,8 @@ pub code-word-spec : {M : Type 1} → statement M
 code-word-spec =
     tie.close
     (tie.spec
+    mul-wired
+    add-wired
     mul-result
     add-result
     mul-result-2
