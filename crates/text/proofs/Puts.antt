@@ -1,6 +1,6 @@
 -- Text written piece by piece, and the digits of numerals. Assumes nothing.
 --   puts-then, puts-as               one piece behind another; an equal piece
---   puts-laid, puts-byte             a copied piece; one byte
+--   puts-none, puts-laid, puts-byte  nothing; a copied piece; one byte
 --   puts-no-symbols, puts-symbol, puts-symbols    the symbols of a message
 --   numeral-1, numeral-2, numeral-3  numerals of one, two and three digits
 use mathlib.Core.Path.{_≡_, refl, sym, ap, ap₂, _∙_, subst}
@@ -42,6 +42,14 @@ puts-then {xs} {ys} {t} {u} {v} {a} {m} {x} p q h =
 
 pub puts-as : {xs ys t z : List ℕ} {a x : ℕ} → xs ≡ ys → Puts xs t a z x → Puts ys t a z x
 puts-as {xs} {ys} {t} {z} {a} {x} e p = subst (λ bs. Puts bs t a z x) e p
+
+pub puts-none : (t : List ℕ) (a : ℕ) → Puts [] t a t a
+unfolding written-at
+puts-none t a =
+    record {
+      end = sym (add-zero a);
+      text = sym (ap₂ (λ f n. f ++ drop n t) (append-nil (take a t)) (add-zero a) ∙ take-append-drop a t);
+    }
 
 pub puts-laid : (bs t z : List ℕ) (a n : ℕ) → n ≡ length bs → a + n ≤ length t → Laid (λ i. at bs (0 + i)) a n t z → Puts bs t a z (a + n)
 unfolding written-at
@@ -95,12 +103,8 @@ append-spaced [] x = append-nil (spaced x)
 append-spaced (y ∷ xs) x = ap (λ zs. spaced y ++ zs) (append-spaced xs x) ∙ sym (append-assoc (spaced y) (all-spaced xs) (spaced x))
 
 pub puts-no-symbols : (xs t : List ℕ) (a : ℕ) → Puts (all-spaced (take 0 xs)) t a t a
-unfolding written-at all-spaced
-puts-no-symbols xs t a =
-    record {
-      end = sym (add-zero a);
-      text = sym (ap₂ (λ f n. f ++ drop n t) (append-nil (take a t)) (add-zero a) ∙ take-append-drop a t);
-    }
+unfolding all-spaced
+puts-no-symbols xs t a = puts-none t a
 
 pub puts-symbol : {t u v : List ℕ} {a m x : ℕ} (xs : List ℕ) (i : ℕ) → i < length xs → Puts (all-spaced (take i xs)) t a u m → Puts (spaced (at xs i)) u m v x
     → a ≤ length t → Puts (all-spaced (take (i + 1) xs)) t a v x

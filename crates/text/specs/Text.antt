@@ -3,6 +3,7 @@
 --   numeral n          == the decimal numeral of n, without a leading zero; 0 is "0"
 --   spaced n           == one space and the numeral of n
 --   named w n          == a word, one space and the numeral of n
+--   wiring-mark w      == the wiring, under wiring 1 alone
 --   refused-line n, code-line c, losses-line l s g f, message-line xs    the lines, each ended by a line feed
 --   outcome-line v xs  == the third line: the message xs for the outcome 0, else the refusal v
 --   stripe-lines c l s g f v xs == the three lines of a stripe
@@ -43,8 +44,11 @@ named w n = ascii w ++ spaced n
 unfoldable pub refused-line : ℕ → List ℕ
 refused-line n = named "refused" n ++ ascii "\n"
 
+unfoldable pub wiring-mark : (wiring : ℕ) → List ℕ
+wiring-mark w = cond (eqb w 1) (spaced w) []
+
 unfoldable pub code-line : Code → List ℕ
-code-line c = named "code" (c .field) ++ spaced (c .r) ++ spaced (c .n) ++ spaced (c .k) ++ ascii "\n"
+code-line c = named "code" (c .field) ++ spaced (c .r) ++ spaced (c .n) ++ spaced (c .k) ++ wiring-mark (c .wiring) ++ ascii "\n"
 
 unfoldable pub losses-line : (lost sure grade first : ℕ) → List ℕ
 losses-line l s g f = named "lost" l ++ named " sure" s ++ named " grade" g ++ named " first" f ++ ascii "\n"

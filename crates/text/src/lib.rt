@@ -2,7 +2,7 @@
 ghost use mathlib.Core.List.{[], _∷_, _++_};
 ghost use Prim.Native.Nat.{_+_, _*_, _≤_, _<_};
 ghost use lib.ListN.{length};
-ghost use Rattle.text.specs.Text.{numeral, spaced, all-spaced, refused-line, code-line, losses-line, message-line, stripe-lines, Small, Puts};
+ghost use Rattle.text.specs.Text.{numeral, spaced, all-spaced, refused-line, wiring-mark, code-line, losses-line, message-line, stripe-lines, Small, Puts};
 use code::Code;
 
 // Copies bytes into the text: answers the place behind them.
@@ -68,15 +68,27 @@ pub fn put_refused(text: &mut [u8], at: usize, refusal: u32) -> usize
     put(text, next, b"\n")
 }
 
+// Puts the wiring, under wiring 1 alone.
+fn put_wiring(text: &mut [u8], at: usize, wiring: u32) -> usize
+    requires { ⌜ at + 4 ≤ length (now text) ⌝ }
+    ensures { λ x. ⌜ Puts (wiring-mark wiring) (now (text .entry)) at (now (text .exit)) x × (x ≤ at + 4) ⌝ }
+{
+    if wiring != 1 {
+        return at;
+    }
+    put_spaced(text, at, wiring)
+}
+
 // Puts the line of a code.
 pub fn put_code(text: &mut [u8], at: usize, code: Code) -> usize
-    requires { ⌜ (at + 21 ≤ length (now text)) × (code .field < 1000) × (code .r < 1000) × (code .n < 1000) × (code .k < 1000) ⌝ }
-    ensures { λ x. ⌜ Puts (code-line code) (now (text .entry)) at (now (text .exit)) x × (x ≤ at + 21) ⌝ }
+    requires { ⌜ (at + 25 ≤ length (now text)) × (code .field < 1000) × (code .r < 1000) × (code .n < 1000) × (code .k < 1000) ⌝ }
+    ensures { λ x. ⌜ Puts (code-line code) (now (text .entry)) at (now (text .exit)) x × (x ≤ at + 25) ⌝ }
 {
     let mut next = put_named(text, at, b"code", code.field);
     next = put_spaced(text, next, code.r);
     next = put_spaced(text, next, code.n);
     next = put_spaced(text, next, code.k);
+    next = put_wiring(text, next, code.wiring);
     put(text, next, b"\n")
 }
 

@@ -21,6 +21,9 @@ put-spaced-requires-2 c κs = search needs
 put-spaced-requires-3 : tie.Need-put-spaced-requires-3
 put-spaced-requires-3 c κs = search needs
 
+put-wiring-requires : tie.Need-put-wiring-requires
+put-wiring-requires c κs = search needs
+
 slice-aggregate-put : tie.Need-slice-aggregate-put
 slice-aggregate-put c = search needs
 
@@ -33,14 +36,15 @@ same-length c = search needs
 returns : tie.Need-returns
 unfolding code-line named ascii
 returns c =
-    let p = c .before .before .before .before .before .before .before .before .before .before .before .before .before .before .before .before .before .before .before .put-named .ensures in
-    let q = c .before .before .before .before .before .before .before .before .before .before .before .before .before .before .before .put-spaced .ensures in
-    let r = c .before .before .before .before .before .before .before .before .before .before .before .put-spaced2 .ensures in
-    let s = c .before .before .before .before .before .before .before .put-spaced3 .ensures in
+    let p = c .before .before .before .before .before .before .before .before .before .before .before .before .before .before .before .before .before .before .before .before .before .before .before .put-named .ensures in
+    let q = c .before .before .before .before .before .before .before .before .before .before .before .before .before .before .before .before .before .before .before .put-spaced .ensures in
+    let r = c .before .before .before .before .before .before .before .before .before .before .before .before .before .before .before .put-spaced2 .ensures in
+    let s = c .before .before .before .before .before .before .before .before .before .before .before .put-spaced3 .ensures in
+    let w = c .before .before .before .before .before .before .before .put-wiring .ensures in
     let t = c .before .before .put .ensures in
-    let h = c .before .before .before .before .before .before .before .before .before .before .before .before .before .before .before .before .before .before .before .before .before .before .before .pre .0 in (
-      puts-then (puts-then (puts-then (puts-then (p .0) (q .0) (omega arith)) (r .0) (omega arith)) (s .0) (omega arith)) t (omega arith),
-      omega (arith, p .1, q .1, r .1, s .1, t .end),
+    let h = c .before .before .before .before .before .before .before .before .before .before .before .before .before .before .before .before .before .before .before .before .before .before .before .before .before .before .before .pre .0 in (
+      puts-then (puts-then (puts-then (puts-then (puts-then (p .0) (q .0) (omega arith)) (r .0) (omega arith)) (s .0) (omega arith)) (w .0) (omega arith)) t (omega arith),
+      omega (arith, p .1, q .1, r .1, s .1, w .1, t .end),
     )
 
 pub put-code-spec : {M : Type 1} → statement M
@@ -52,6 +56,7 @@ put-code-spec =
     put-spaced-requires
     put-spaced-requires-2
     put-spaced-requires-3
+    put-wiring-requires
     slice-aggregate-put
     put-requires
     same-length
