@@ -21,7 +21,7 @@ use Rattle.weights.proofs.Sixteen.{length-sixteen}
 use Rattle.binding.specs.Fill.{weights-refusal, Weights-fill}
 
 module _ (c : Code) (p : ℕ) (a : List ℕ) (y : RepairWeights) where
-  -- what was asked before the call: questions 1 to 4, and 5 of the buffer
+  -- what was asked before the call: questions 1 to 4 and 17, and 5 of the buffer
   abbrev pub before : ℕ
   before = or-ask (code-refusal c) (ask (eqb (length a) 16) 5 0)
 

@@ -1,5 +1,5 @@
 -- What the C function for a slot's weights writes. Assumes nothing: these are definitions.
---   weights-refusal c p l      questions 1 to 4, 5 of the l bytes, 7
+--   weights-refusal c p l      questions 1 to 4 and 17, 5 of the l bytes, 7
 --   Weights-fill c p x a z     == the sixteen bytes a have become the weights of slot p and zeros, or are unchanged on a refusal
 use mathlib.Core.List.{List}
 use Prim.Native.Nat.{ℕ}

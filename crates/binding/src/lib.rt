@@ -1,7 +1,7 @@
 // Answers in the forms that C takes: in one number, and in buffers in place of arrays and structs.
 ghost use mathlib.Core.Path.{_≡_};
 ghost use lib.ListN.{length};
-ghost use Rattle.binding.specs.Pack.{unpacked, four};
+ghost use Rattle.binding.specs.Pack.{unpacked, code-row};
 ghost use Rattle.binding.specs.Fill.{Weights-fill};
 use code::Answer;
 use code::Code;
@@ -13,13 +13,13 @@ pub fn packed(answer: Answer) -> u64
     answer.refusal as u64 * 0x1_0000_0000 + answer.value as u64
 }
 
-// Writes the four numbers of a code.
+// Writes the five numbers of a code.
 pub fn put_code(code: Code, numbers: &mut [u32])
-    requires { ⌜ length (now numbers) ≡ 4 ⌝ }
-    ensures { λ _. ⌜ now (numbers .exit) ≡ four code ⌝ }
+    requires { ⌜ length (now numbers) ≡ 5 ⌝ }
+    ensures { λ _. ⌜ now (numbers .exit) ≡ code-row code ⌝ }
 {
-    let four = [code.field, code.r, code.n, code.k];
-    copying::copy_numbers(&four, numbers);
+    let row = [code.field, code.r, code.n, code.k, code.wiring];
+    copying::copy_numbers(&row, numbers);
 }
 
 // Writes the sixteen repair weights of a slot.

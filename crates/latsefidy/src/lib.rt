@@ -1,4 +1,4 @@
-// The C library: each call under its C name, with the code as four numbers.
+// The C library: each call under its C name, with the code as five numbers.
 ghost use lib.ListN.{take};
 ghost use Rattle.code.specs.Answer.{Answers};
 ghost use Rattle.code.specs.Family.{code-of, single, code-refusal};
@@ -24,12 +24,23 @@ pub extern "C" fn latsefidy_encode(
     r: u32,
     n: u32,
     k: u32,
+    wiring: u32,
     message: &[u8],
     codeword: &mut [u8],
 ) -> u32
-    ensures { λ x. ⌜ Encode-says (code-refusal (code-of field r n k)) (single (code-of field r n k)) (now (message .entry)) x (now (codeword .entry)) (now (codeword .exit)) ⌝ }
+    ensures { λ x. ⌜ Encode-says (code-refusal (code-of field r n k wiring)) (single (code-of field r n k wiring)) (now (message .entry)) x (now (codeword .entry)) (now (codeword .exit)) ⌝ }
 {
-    encode::encode(Code { field, r, n, k }, message, codeword)
+    encode::encode(
+        Code {
+            field,
+            r,
+            n,
+            k,
+            wiring,
+        },
+        message,
+        codeword,
+    )
 }
 
 // Writes the sixteen repair weights of a slot.
@@ -39,12 +50,23 @@ pub extern "C" fn latsefidy_weights(
     r: u32,
     n: u32,
     k: u32,
+    wiring: u32,
     slot: u32,
     weights: &mut [u8],
 ) -> u32
-    ensures { λ x. ⌜ Weights-fill (code-of field r n k) slot x (now (weights .entry)) (now (weights .exit)) ⌝ }
+    ensures { λ x. ⌜ Weights-fill (code-of field r n k wiring) slot x (now (weights .entry)) (now (weights .exit)) ⌝ }
 {
-    binding::weights_into(Code { field, r, n, k }, slot, weights)
+    binding::weights_into(
+        Code {
+            field,
+            r,
+            n,
+            k,
+            wiring,
+        },
+        slot,
+        weights,
+    )
 }
 
 // The symbol of a slot from its mates' symbols.
@@ -54,12 +76,23 @@ pub extern "C" fn latsefidy_repair(
     r: u32,
     n: u32,
     k: u32,
+    wiring: u32,
     slot: u32,
     mates: &[u8],
 ) -> u64
-    ensures { λ x. ⌜ Repair-says (code-refusal (code-of field r n k)) (single (code-of field r n k)) slot (now (mates .entry)) (unpacked x) ⌝ }
+    ensures { λ x. ⌜ Repair-says (code-refusal (code-of field r n k wiring)) (single (code-of field r n k wiring)) slot (now (mates .entry)) (unpacked x) ⌝ }
 {
-    packed(repair::repair(Code { field, r, n, k }, slot, mates))
+    packed(repair::repair(
+        Code {
+            field,
+            r,
+            n,
+            k,
+            wiring,
+        },
+        slot,
+        mates,
+    ))
 }
 
 // Rebuilds a strip from its mates' strips.
@@ -69,21 +102,51 @@ pub extern "C" fn latsefidy_rebuild(
     r: u32,
     n: u32,
     k: u32,
+    wiring: u32,
     slot: u32,
     strips: &[u8],
     out: &mut [u8],
 ) -> u32
-    ensures { λ x. ⌜ Rebuild-says (code-refusal (code-of field r n k)) (single (code-of field r n k)) slot (now (strips .entry)) x (now (out .entry)) (now (out .exit)) ⌝ }
+    ensures { λ x. ⌜ Rebuild-says (code-refusal (code-of field r n k wiring)) (single (code-of field r n k wiring)) slot (now (strips .entry)) x (now (out .entry)) (now (out .exit)) ⌝ }
 {
-    repair::rebuild(Code { field, r, n, k }, slot, strips, out)
+    repair::rebuild(
+        Code {
+            field,
+            r,
+            n,
+            k,
+            wiring,
+        },
+        slot,
+        strips,
+        out,
+    )
 }
 
 // The first slot of a slot's group in a word.
 #[no_mangle]
-pub extern "C" fn latsefidy_view(field: u32, r: u32, n: u32, k: u32, slot: u32, word: &[u8]) -> u64
-    ensures { λ x. ⌜ Answers (view-refusal (code-refusal (code-of field r n k)) (single (code-of field r n k)) slot (now (word .entry))) (first-slot (code-of field r n k) slot) (unpacked x) ⌝ }
+pub extern "C" fn latsefidy_view(
+    field: u32,
+    r: u32,
+    n: u32,
+    k: u32,
+    wiring: u32,
+    slot: u32,
+    word: &[u8],
+) -> u64
+    ensures { λ x. ⌜ Answers (view-refusal (code-refusal (code-of field r n k wiring)) (single (code-of field r n k wiring)) slot (now (word .entry))) (first-slot (code-of field r n k wiring) slot) (unpacked x) ⌝ }
 {
-    packed(view::view_first(Code { field, r, n, k }, slot, word))
+    packed(view::view_first(
+        Code {
+            field,
+            r,
+            n,
+            k,
+            wiring,
+        },
+        slot,
+        word,
+    ))
 }
 
 // Repairs each group with exactly one loss, and answers how many.
@@ -93,12 +156,23 @@ pub extern "C" fn latsefidy_local_pass(
     r: u32,
     n: u32,
     k: u32,
+    wiring: u32,
     word: &mut [u8],
     marks: &mut [u8],
 ) -> u64
-    ensures { λ x. ⌜ Pass-says (code-refusal (code-of field r n k)) (single (code-of field r n k)) (now (word .entry)) (now (marks .entry)) (unpacked x) (now (word .exit)) (now (marks .exit)) ⌝ }
+    ensures { λ x. ⌜ Pass-says (code-refusal (code-of field r n k wiring)) (single (code-of field r n k wiring)) (now (word .entry)) (now (marks .entry)) (unpacked x) (now (word .exit)) (now (marks .exit)) ⌝ }
 {
-    packed(pass::local_pass(Code { field, r, n, k }, word, marks))
+    packed(pass::local_pass(
+        Code {
+            field,
+            r,
+            n,
+            k,
+            wiring,
+        },
+        word,
+        marks,
+    ))
 }
 
 // Decodes the kept symbols of a word.
@@ -108,22 +182,51 @@ pub extern "C" fn latsefidy_decode(
     r: u32,
     n: u32,
     k: u32,
+    wiring: u32,
     word: &[u8],
     marks: &[u8],
     message: &mut [u8],
     work: &mut [u8],
 ) -> u32
-    ensures { λ x. ⌜ Decode-says (code-refusal (code-of field r n k)) (single (code-of field r n k)) (now (word .entry)) (now (marks .entry)) x (now (message .entry)) (now (message .exit)) (now (work .entry)) (now (work .exit)) ⌝ }
+    ensures { λ x. ⌜ Decode-says (code-refusal (code-of field r n k wiring)) (single (code-of field r n k wiring)) (now (word .entry)) (now (marks .entry)) x (now (message .entry)) (now (message .exit)) (now (work .entry)) (now (work .exit)) ⌝ }
 {
-    decode::decode(Code { field, r, n, k }, word, marks, message, work)
+    decode::decode(
+        Code {
+            field,
+            r,
+            n,
+            k,
+            wiring,
+        },
+        word,
+        marks,
+        message,
+        work,
+    )
 }
 
 // Grades a stripe by its marks.
 #[no_mangle]
-pub extern "C" fn latsefidy_grade(field: u32, r: u32, n: u32, k: u32, marks: &[u8]) -> u64
-    ensures { λ x. ⌜ Grade-says (code-refusal (code-of field r n k)) (single (code-of field r n k)) (now (marks .entry)) (unpacked x) ⌝ }
+pub extern "C" fn latsefidy_grade(
+    field: u32,
+    r: u32,
+    n: u32,
+    k: u32,
+    wiring: u32,
+    marks: &[u8],
+) -> u64
+    ensures { λ x. ⌜ Grade-says (code-refusal (code-of field r n k wiring)) (single (code-of field r n k wiring)) (now (marks .entry)) (unpacked x) ⌝ }
 {
-    packed(grading::grade(Code { field, r, n, k }, marks))
+    packed(grading::grade(
+        Code {
+            field,
+            r,
+            n,
+            k,
+            wiring,
+        },
+        marks,
+    ))
 }
 
 // Decodes a stripe and writes its record.
@@ -133,15 +236,29 @@ pub extern "C" fn latsefidy_record(
     r: u32,
     n: u32,
     k: u32,
+    wiring: u32,
     word: &[u8],
     marks: &[u8],
     message: &mut [u8],
     work: &mut [u8],
     numbers: &mut [u32],
 ) -> u32
-    ensures { λ x. ⌜ Record-fills (code-of field r n k) (now (word .entry)) (now (marks .entry)) x (now (message .entry)) (now (message .exit)) (now (work .entry)) (now (work .exit)) (now (numbers .entry)) (now (numbers .exit)) ⌝ }
+    ensures { λ x. ⌜ Record-fills (code-of field r n k wiring) (now (word .entry)) (now (marks .entry)) x (now (message .entry)) (now (message .exit)) (now (work .entry)) (now (work .exit)) (now (numbers .entry)) (now (numbers .exit)) ⌝ }
 {
-    record_binding::record_into(Code { field, r, n, k }, word, marks, message, work, numbers)
+    record_binding::record_into(
+        Code {
+            field,
+            r,
+            n,
+            k,
+            wiring,
+        },
+        word,
+        marks,
+        message,
+        work,
+        numbers,
+    )
 }
 
 // Reads a stripe sheet.
@@ -164,13 +281,25 @@ pub extern "C" fn latsefidy_write_sheet(
     r: u32,
     n: u32,
     k: u32,
+    wiring: u32,
     word: &[u8],
     marks: &[u8],
     sheet: &mut [u8],
 ) -> u32
-    ensures { λ x. ⌜ Write-says (code-of field r n k) (now (word .entry)) (now (marks .entry)) x (now (sheet .entry)) (now (sheet .exit)) ⌝ }
+    ensures { λ x. ⌜ Write-says (code-of field r n k wiring) (now (word .entry)) (now (marks .entry)) x (now (sheet .entry)) (now (sheet .exit)) ⌝ }
 {
-    sheet::write_sheet(Code { field, r, n, k }, word, marks, sheet)
+    sheet::write_sheet(
+        Code {
+            field,
+            r,
+            n,
+            k,
+            wiring,
+        },
+        word,
+        marks,
+        sheet,
+    )
 }
 
 // Writes the report of a sheet, of which at most the first 1,032 bytes are judged.

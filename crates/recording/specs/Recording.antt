@@ -1,7 +1,7 @@
 -- A stripe's record. Assumes nothing: these are definitions.
 --   outcome-number    the paper's number of every outcome: what decode answers
 --   blank             the record of a refusal: every field 0 and the outcome undecided
---   Record-says       the record with decode's verdict, or on a refusal 1 to 8 the blank one and unchanged buffers
+--   Record-says       the record with decode's verdict, or on a refusal 1 to 8 or 17 the blank one and unchanged buffers
 use mathlib.Core.Path.{_≡_}
 use mathlib.Core.List.{List}
 use Prim.Native.Nat.{ℕ, zero, suc}
@@ -25,7 +25,7 @@ outcome-number Undecided = 10
 unfoldable pub blank : StripeRecord
 blank =
     record {
-      code = record { field = 0; r = 0; n = 0; k = 0 };
+      code = record { field = 0; r = 0; n = 0; k = 0; wiring = 0 };
       lost = 0;
       guarantee = 0;
       grade = 0;

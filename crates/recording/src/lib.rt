@@ -62,6 +62,7 @@ fn blank_record() -> StripeRecord
         r: 0,
         n: 0,
         k: 0,
+        wiring: 0,
     };
     StripeRecord {
         code,

@@ -77,5 +77,6 @@ refusal-most s =
     ask-most _ 11 _ (omega arith)
     (ask-most _ 12 _ (omega arith)
     (or-ask-most _ _
-    (ask-most _ 1 _ (omega arith) (ask-most _ 2 _ (omega arith) (ask-most _ 3 _ (omega arith) (ask-most _ 4 _ (omega arith) (omega arith)))))
+    (ask-most _ 1 _ (omega arith)
+    (ask-most _ 2 _ (omega arith) (ask-most _ 3 _ (omega arith) (ask-most _ 4 _ (omega arith) (ask-most _ 17 _ (omega arith) (omega arith))))))
     (ask-most _ 13 _ (omega arith) (ask-most _ 14 _ (omega arith) (ask-most _ 6 _ (omega arith) (ask-most _ 15 _ (omega arith) (omega arith)))))))

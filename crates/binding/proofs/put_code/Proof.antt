@@ -1,5 +1,5 @@
 -- `put_code` meets its contract. Assumes nothing.
-use Rattle.binding.specs.Pack.{four}
+use Rattle.binding.specs.Pack.{code-row}
 use borrow.Author.Needs.{needs}
 use Rattle.binding.proofs.put_code.Statement.{statement}
 use Rattle.binding.proofs.put_code.Tie as tie
@@ -14,7 +14,7 @@ same-length : tie.Need-same-length
 same-length c = search needs
 
 returns : tie.Need-returns
-unfolding four
+unfolding code-row
 returns c = c .before .before .copy-numbers .ensures
 
 pub put-code-spec : {M : Type 1} → statement M

@@ -178,7 +178,7 @@ returns-2 c =
     let v = c .dot .result in
     let g : ℕ → ℕ = λ k. repaired h (slot-at h (a .group) k) (part-mates h k ws) in
     let e : v ≡ g i = c .dot .ensures ∙ mended-symbol h (s .pre .2) (p .result) (slot-within (c .before .before .before .before .before .before .before)) i (W .result) (N .result) ws (W .ensures) (N .ensures)
-        ∙ ap (λ p. repaired h p (part-mates h i ws)) (p .ensures) in
+    ∙ ap (λ p. repaired h p (part-mates h i ws)) (p .ensures) in
     record {
       number = rw y refl;
       word = subst (λ (n : ℕ). Members-set h (instead h ms g ws) ws (set ws n v)) (sym place)

@@ -1,6 +1,6 @@
 -- `put_record` meets its contract. Assumes nothing.
 use mathlib.Core.Path.{_∙_}
-use Rattle.binding.specs.Pack.{four}
+use Rattle.binding.specs.Pack.{code-row}
 use Rattle.record_binding.specs.Record.{numbers-of}
 use borrow.Author.Needs.{needs}
 use Rattle.record_binding.proofs.put_record.Statement.{statement}
@@ -19,7 +19,7 @@ same-length : tie.Need-same-length
 same-length c = search needs
 
 returns : tie.Need-returns
-unfolding numbers-of four
+unfolding numbers-of code-row
 returns c = c .before .before .copy-numbers .ensures ∙ cc (c .before .before .before .before .before .outcome-number .ensures)
 
 pub put-record-spec : {M : Type 1} → statement M

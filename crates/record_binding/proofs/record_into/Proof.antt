@@ -19,7 +19,7 @@ said t =
     let a = t .before .before .before .before .before .before .before .before .before .before .before .args in
     let d = t .record-with in
     subst (λ n. Record-says n (a .code) (single (a .code)) (a .word .now) (a .marks .now) (d .result) (a .message .now) (d .last .1 .1 .1 .1 .1 .0) (a .work .now) (d .last .1 .1 .1 .1 .1 .1 .0))
-    (t .before .before .before .before .ask .ensures ∙ ap (λ n. or-ask n (ask (eqb (length (a .numbers .now)) 9) 5 0)) (t .before .before .before .before .before .code-refusal .ensures))
+    (t .before .before .before .before .ask .ensures ∙ ap (λ n. or-ask n (ask (eqb (length (a .numbers .now)) 10) 5 0)) (t .before .before .before .before .before .code-refusal .ensures))
     (subst (λ s. Record-says (t .before .before .before .before .ask .result) (a .code) s (a .word .now) (a .marks .now) (d .result) (a .message .now) (d .last .1 .1 .1 .1 .1 .0) (a .work .now) (d .last .1 .1 .1 .1 .1 .1 .0))
     (t .before .before .before .single .ensures) (d .ensures))
 
