@@ -32,7 +32,7 @@ struct buffer {
 static struct buffer buffers[BUFFERS];
 static size_t room;
 static unsigned long record_number, calls[CALLS + 1], refused[CALLS + 1], wrong[CALLS + 1];
-static uint32_t call, numbers[5]; /* field r n k slot */
+static uint32_t call, numbers[6]; /* field r n k wiring slot */
 
 /* The record that is being read, and the place in it. */
 static uint8_t *record;
@@ -54,8 +54,8 @@ static void on_fault(int signal_number) {
 static void mismatch(const char *format, ...) {
     va_list arguments;
     if (wrong[call]++ >= SHOWN) return;
-    fprintf(stderr, "record %lu: %s field %u r %u n %u k %u slot %u: ", record_number, NAMES[call],
-            numbers[0], numbers[1], numbers[2], numbers[3], numbers[4]);
+    fprintf(stderr, "record %lu: %s field %u r %u n %u k %u wiring %u slot %u: ", record_number,
+            NAMES[call], numbers[0], numbers[1], numbers[2], numbers[3], numbers[4], numbers[5]);
     va_start(arguments, format);
     vfprintf(stderr, format, arguments);
     va_end(arguments);
@@ -140,8 +140,8 @@ static uint64_t refusal_only(uint32_t refusal) { return (uint64_t)refusal << 32;
 
 #define BYTES(i) buffers[i].at, buffers[i].length
 #define NUMBERS(i) (uint32_t *)(void *)buffers[i].at, buffers[i].length / 4
-#define CODE numbers[0], numbers[1], numbers[2], numbers[3]
-#define SLOT numbers[4]
+#define CODE numbers[0], numbers[1], numbers[2], numbers[3], numbers[4]
+#define SLOT numbers[5]
 
 /* Makes the call: refusal in the high half, value in the low. */
 static uint64_t answer(void) {
@@ -173,7 +173,7 @@ static void check(uint32_t refusal, uint32_t value, int side) {
 static void run_record(void) {
     call = next_number();
     if (call < 1 || call > CALLS) die("no such call");
-    for (int i = 0; i < 5; i++) numbers[i] = next_number();
+    for (int i = 0; i < 6; i++) numbers[i] = next_number();
     if (next_number() != COUNTS[call]) die("bad count of buffers");
     for (uint32_t i = 0; i < COUNTS[call]; i++) buffers[i].length = next_bytes(buffers[i].before);
     uint32_t refusal = next_number(), value = next_number();

@@ -13,7 +13,7 @@ buffer alone is cleared under 9 and 10.
 from collections import namedtuple
 from functools import lru_cache
 
-Code = namedtuple("Code", "field r n k")
+Code = namedtuple("Code", "field r n k wiring", defaults=[0])
 
 GAMMA = 2  # generates the nonzero elements of both fields
 REDUCER = 0x11D
@@ -69,17 +69,24 @@ def power(field, a, e):
 # The code ----------------------------------------------------------------------------------------
 
 
+def groups(code):
+    return code.n // (code.r + 1)
+
+
+def place(code, slot):
+    """The group of a slot, and which member of it the slot is, by the wiring."""
+    if code.wiring == 0:
+        return divmod(slot, code.r + 1)
+    return slot % groups(code), slot // groups(code)
+
+
 def group(code, slot):
-    return slot // (code.r + 1)
+    return place(code, slot)[0]
 
 
 def members(code, g):
     """The slots of a group, in order."""
-    return range(g * (code.r + 1), (g + 1) * (code.r + 1))
-
-
-def groups(code):
-    return code.n // (code.r + 1)
+    return [p for p in range(code.n) if group(code, p) == g]
 
 
 def mates(code, slot):
@@ -87,7 +94,7 @@ def mates(code, slot):
 
 
 def point(code, slot):
-    j, i = divmod(slot, code.r + 1)
+    j, i = place(code, slot)
     return power(code.field, GAMMA, j + i * ((order(code.field) - 1) // (code.r + 1)))
 
 
@@ -109,7 +116,7 @@ def evaluate(code, message, x):
 
 
 def code_refusal(code):
-    """Questions 1 to 4."""
+    """Questions 1 2 3 4 17."""
     if code.field not in (0, 1):
         return 1
     q = order(code.field)
@@ -119,6 +126,8 @@ def code_refusal(code):
         return 3
     if not 1 <= code.k <= code.r * code.n // (code.r + 1):
         return 4
+    if code.wiring not in (0, 1) or code.wiring == 1 and code.n % (code.r + 1):
+        return 17
     return 0
 
 
@@ -134,7 +143,7 @@ def marks_fit(marks):
 
 
 def encode(code, message, codeword):
-    """1 2 3 4 5 6"""
+    """1 2 3 4 17 5 6"""
     refusal = code_refusal(code)
     if refusal:
         return refusal
@@ -173,7 +182,7 @@ def repaired(code, slot, symbols):
 
 
 def weights(code, slot, out):
-    """1 2 3 4 5 7"""
+    """1 2 3 4 17 5 7"""
     refusal = code_refusal(code)
     if refusal:
         return refusal
@@ -187,7 +196,7 @@ def weights(code, slot, out):
 
 
 def repair(code, slot, symbols):
-    """1 2 3 4 5 7 6; the value is the slot's symbol."""
+    """1 2 3 4 17 5 7 6; the value is the slot's symbol."""
     refusal = code_refusal(code)
     if refusal:
         return refusal, 0
@@ -201,7 +210,7 @@ def repair(code, slot, symbols):
 
 
 def rebuild(code, slot, strips, out):
-    """1 2 3 4 5 7 6"""
+    """1 2 3 4 17 5 7 6"""
     refusal = code_refusal(code)
     if refusal:
         return refusal
@@ -217,10 +226,12 @@ def rebuild(code, slot, strips, out):
 
 
 def view(code, slot, word):
-    """1 2 3 4 5 7; the value is the first slot of the group."""
+    """1 2 3 4 17 18 5 7; the value is the first slot of the group."""
     refusal = code_refusal(code)
     if refusal:
         return refusal, 0
+    if code.wiring == 1:
+        return 18, 0
     if len(word) != code.n:
         return 5, 0
     if not slot < code.n:
@@ -234,7 +245,7 @@ def losses(code, marks, g):
 
 
 def local_pass(code, word, marks):
-    """1 2 3 4 5 8 6; the value is the number of groups repaired."""
+    """1 2 3 4 17 5 8 6; the value is the number of groups repaired."""
     refusal = code_refusal(code)
     if refusal:
         return refusal, 0
@@ -304,7 +315,7 @@ def solve(code, word, marks):
 
 
 def decode_refusal(code, word, marks, message, work):
-    """1 2 3 4 5 8 6, as decode and record ask them."""
+    """1 2 3 4 17 5 8 6, as decode and record ask them."""
     refusal = code_refusal(code)
     if refusal:
         return refusal
@@ -320,7 +331,7 @@ def decode_refusal(code, word, marks, message, work):
 
 
 def decode(code, word, marks, message, work):
-    """1 2 3 4 5 8 6 9 10"""
+    """1 2 3 4 17 5 8 6 9 10"""
     refusal = decode_refusal(code, word, marks, message, work)
     if refusal:
         return refusal
@@ -348,7 +359,7 @@ def graded(code, marks):
 
 
 def grade(code, marks):
-    """1 2 3 4 5 8; the value is the grade."""
+    """1 2 3 4 17 5 8; the value is the grade."""
     refusal = code_refusal(code)
     if refusal:
         return refusal, 0
@@ -360,11 +371,11 @@ def grade(code, marks):
 
 
 def record(code, word, marks, message, work, out):
-    """1 2 3 4 5 8 6; out: field r n k lost sure grade first outcome."""
+    """1 2 3 4 17 5 8 6; out: field r n k wiring lost sure grade first outcome."""
     refusal = code_refusal(code)
     if refusal:
         return refusal
-    if len(out) != 9:
+    if len(out) != 10:
         return 5
     refusal = decode_refusal(code, word, marks, message, work)
     if refusal:
@@ -379,8 +390,8 @@ def record(code, word, marks, message, work, out):
 
 
 def read_sheet(sheet, word, marks, out):
-    """5 11 12 1 2 3 4 13 14 6 15; out: field r n k."""
-    if len(word) < SHEET_BUFFER or len(marks) < SHEET_BUFFER or len(out) != 4:
+    """5 11 12 1 2 3 4 17 13 14 6 15; out: field r n k wiring."""
+    if len(word) < SHEET_BUFFER or len(marks) < SHEET_BUFFER or len(out) != 5:
         return 5
     if len(sheet) % 4:
         return 11
@@ -388,7 +399,7 @@ def read_sheet(sheet, word, marks, out):
     if not rows or rows[0] >> 28 != 1:
         return 12
     head = rows[0]
-    code = Code(head >> 24 & 15, head >> 16 & 255, head >> 8 & 255, head & 255)
+    code = Code(head >> 24 & 7, head >> 16 & 255, head >> 8 & 255, head & 255, head >> 27 & 1)
     refusal = code_refusal(code)
     if refusal:
         return refusal
@@ -411,7 +422,7 @@ def read_sheet(sheet, word, marks, out):
 
 
 def write_sheet(code, word, marks, sheet):
-    """1 2 3 4 5 8 6"""
+    """1 2 3 4 17 5 8 6"""
     refusal = code_refusal(code)
     if refusal:
         return refusal
@@ -421,7 +432,7 @@ def write_sheet(code, word, marks, sheet):
         return 8
     if not symbols_fit(code, [s for s, m in zip(word, marks) if m == 0]):
         return 6
-    rows = [1 << 28 | code.field << 24 | code.r << 16 | code.n << 8 | code.k]
+    rows = [1 << 28 | code.wiring << 27 | code.field << 24 | code.r << 16 | code.n << 8 | code.k]
     rows += [3 << 28 | p << 8 if marks[p] else 2 << 28 | p << 8 | word[p] for p in range(code.n)]
     rows.append(4 << 28 | code.n)
     sheet[:] = b"".join(row.to_bytes(4, "big") for row in rows)
@@ -430,16 +441,17 @@ def write_sheet(code, word, marks, sheet):
 
 def report_text(data):
     """What the report program writes for this input."""
-    word, marks, out = bytearray(SHEET_BUFFER), bytearray(SHEET_BUFFER), [0] * 4
+    word, marks, out = bytearray(SHEET_BUFFER), bytearray(SHEET_BUFFER), [0] * 5
     refusal = read_sheet(data[:REPORT_INPUT], word, marks, out)
     if refusal:
         return f"refused {refusal}\n"
     code = Code(*out)
-    message, work, fields = bytearray(code.k), bytearray(code.n * (code.k + 1)), [0] * 9
+    message, work, fields = bytearray(code.k), bytearray(code.n * (code.k + 1)), [0] * 10
     record(code, word[: code.n], marks[: code.n], message, work, fields)
-    lost, sure, level, first, outcome = fields[4:]
+    lost, sure, level, first, outcome = fields[5:]
     answer = ["message", *message] if outcome == DECIDED else ["refused", outcome]
-    lines = [["code", *code], ["lost", lost, "sure", sure, "grade", level, "first", first], answer]
+    named = code if code.wiring else code[:4]
+    lines = [["code", *named], ["lost", lost, "sure", sure, "grade", level, "first", first], answer]
     return "".join(" ".join(map(str, line)) + "\n" for line in lines)
 
 

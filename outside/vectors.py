@@ -2,17 +2,17 @@
 
     python3 outside/vectors.py SEED COUNT [NAME..] > FILE     COUNT calls of each function but those named, on standard output
 
-The calls are valid, damaged and refused, with one fault or with several at once, over both fields
-and the corner codes. Besides come good rebuilds of every locality r of both fields at every length
+The calls are valid, damaged and refused, with one fault or with several at once, over both fields,
+both wirings and the corner codes. Besides come good rebuilds of every locality r of both fields at every length
 where the strip kernel takes another way, unless "lengths" is among the names. A table of how often
 each answer came goes to standard error.
 
 Format: a row of records and then the number 0. Every number is 32 bits, high byte first.
 
-    size        bytes of this record after this number; at least 36
+    size        bytes of this record after this number; at least 40
     call        1 encode, 2 weights, 3 repair, 4 rebuild, 5 view, 6 local_pass, 7 decode, 8 grade,
                 9 record, 10 read_sheet, 11 write_sheet, 12 report
-    field r n k slot    the call's numbers; 0 where it takes none
+    field r n k wiring slot    the call's numbers; 0 where it takes none
     buffers     how many buffers follow: those of the C function, in its order
       length given bytes   for each: before the call it has this length, and its byte i is the
                            given byte i mod given. 0 is given only for length 0
@@ -24,6 +24,7 @@ A buffer of 32-bit numbers (record, code) is 4 bytes a number, high byte first; 
 bytes. A buffer that the call only reads is given in full. No buffer is longer than 65,600 bytes.
 """
 
+import itertools
 import random
 import struct
 import sys
@@ -48,19 +49,19 @@ BUFFERS = {
 }
 CALLS = list(BUFFERS)
 
-# The questions that a fault can be aimed at.
+# The questions that a fault can be aimed at. A sheet cannot fail 17: its wiring is one bit, and 3 is asked before.
 QUESTIONS = {
-    "encode": (1, 2, 3, 4, 5, 6),
-    "weights": (1, 2, 3, 4, 5, 7),
-    "repair": (1, 2, 3, 4, 5, 6, 7),
-    "rebuild": (1, 2, 3, 4, 5, 6, 7),
-    "view": (1, 2, 3, 4, 5, 7),
-    "local_pass": (1, 2, 3, 4, 5, 6, 8),
-    "decode": (1, 2, 3, 4, 5, 6, 8),
-    "grade": (1, 2, 3, 4, 5, 8),
-    "record": (1, 2, 3, 4, 5, 6, 8),
+    "encode": (1, 2, 3, 4, 17, 5, 6),
+    "weights": (1, 2, 3, 4, 17, 5, 7),
+    "repair": (1, 2, 3, 4, 17, 5, 6, 7),
+    "rebuild": (1, 2, 3, 4, 17, 5, 6, 7),
+    "view": (1, 2, 3, 4, 17, 18, 5, 7),
+    "local_pass": (1, 2, 3, 4, 17, 5, 6, 8),
+    "decode": (1, 2, 3, 4, 17, 5, 6, 8),
+    "grade": (1, 2, 3, 4, 17, 5, 8),
+    "record": (1, 2, 3, 4, 17, 5, 6, 8),
     "read_sheet": (1, 2, 3, 4, 5, 6, 11, 12, 13, 14, 15),
-    "write_sheet": (1, 2, 3, 4, 5, 6, 8),
+    "write_sheet": (1, 2, 3, 4, 17, 5, 6, 8),
     "report": (1, 2, 3, 4, 5, 6, 11, 12, 13, 14, 15),
 }
 
@@ -84,11 +85,19 @@ CORNERS = [
     Code(1, 16, 17, 16),
     Code(1, 14, 255, 1),
     Code(1, 4, 10, 3),
+    Code(0, 2, 9, 4, 1),
+    Code(0, 1, 12, 6, 1),
+    Code(0, 5, 12, 10, 1),
+    Code(0, 11, 12, 11, 1),
+    Code(1, 2, 9, 5, 1),
+    Code(1, 4, 10, 3, 1),
+    Code(1, 14, 255, 1, 1),
 ]
 LARGE = [code for code in CORNERS if code.n == 255]
 # the localities of both fields, and the lengths of strips about the edges of the kernel's tiles
 LOCALITIES = [(0, r) for r in (1, 2, 3, 5, 11)] + [(1, r) for r in (2, 4, 14, 16)]
 LENGTHS = (1, 2, 15, 16, 17, 63, 64, 65, 127, 128, 129, 191, 192, 193, 255, 256, 257, 4095, 4096)
+WIRED = 0.45  # the share of codes that have wiring 1
 LARGEST = 2**32 - 1
 LONGEST = 65600  # bytes of a buffer
 TAILS = (1, 3, 4, 5)  # bytes after the longest sheet; the report reads the first four
@@ -148,7 +157,7 @@ def answer(name, code, slot, args):
 def shown(name, refusal, args):
     """The number by which a call is counted."""
     if refusal == 0 and name == "record":
-        return args[4][8]
+        return args[4][9]
     if refusal == 0 and name == "report" and b"refused " in args[1]:
         return int(args[1].split(b"refused ")[1].split(b"\n")[0])
     return refusal
@@ -176,7 +185,12 @@ def make_record(name, code, slot, buffers):
 
 
 def pick_code(rng, field):
-    """A legal code: mostly small, at times a corner or a large one."""
+    """A legal code of either wiring: mostly small, at times a corner or a large one."""
+    return pick_numbers(rng, field)._replace(wiring=1 if rng.random() < WIRED else 0)
+
+
+def pick_numbers(rng, field):
+    """A legal code, of whose wiring nothing is said."""
     fate = rng.random()
     if fate < 0.003 and field != 0:
         return rng.choice(LARGE)
@@ -289,10 +303,10 @@ class Draft:
             "weights": 16,
             "strip": self.columns,
             "work": rng.choice([used] * 20 + [used + rng.randint(1, 40)] * 19 + [61455]),
-            "record": 36,
+            "record": 40,
             "word": rng.choice([255, 255, 256, 300]),
             "marks": rng.choice([255, 255, 256, 300]),
-            "code": 16,
+            "code": 20,
             "sheet": 4 * (code.n + 2),
             "text": rng.choice([1032, 1032, 1033, 1300]),
         }[kind]
@@ -322,20 +336,25 @@ def sheet_rows(code, word, marks):
 # Faults, by the question that each is aimed at ----------------------------------------------------
 
 
+# The question that each of the code's numbers fails, and its bits on a sheet.
+PLACES = {"field": (1, 3), "r": (2, 8), "n": (3, 8), "k": (4, 8), "wiring": (17, 1)}
+
+
 def replace(rng, draft, place, values):
     """Puts in a number that the code's questions refuse at this place, of those that fit a sheet."""
-    most = LARGEST if not draft.rows else (15, 255, 255, 255)["field r n k".split().index(place)]
+    aim, bits = PLACES[place]
+    most = 2**bits - 1 if draft.rows else LARGEST
     bad = [draft.base._replace(**{place: v}) for v in values if 0 <= v <= most]
-    aim = 1 + "field r n k".split().index(place)
     bad = [c for c in bad if ref.code_refusal(c) == aim]
     draft.code = draft.code._replace(**{place: getattr(rng.choice(bad), place)})
     if draft.rows:
         c = draft.code
-        draft.rows[0] = draft.rows[0] >> 28 << 28 | c.field << 24 | c.r << 16 | c.n << 8 | c.k
+        head = c.wiring << 27 | c.field << 24 | c.r << 16 | c.n << 8 | c.k
+        draft.rows[0] = draft.rows[0] >> 28 << 28 | head
 
 
 def fault_field(rng, draft):
-    replace(rng, draft, "field", [2, 3, 7, 15, 13, 255, 256, 257, 2**31, LARGEST])
+    replace(rng, draft, "field", [*range(2, 8), 13, 15, 255, 256, 257, 2**31, LARGEST])
 
 
 def fault_r(rng, draft):
@@ -356,6 +375,15 @@ def fault_k(rng, draft):
     top = base.r * base.n // (base.r + 1)
     near = [top + 1, top + 2, base.n, base.n + 1, base.k + 256]
     replace(rng, draft, "k", [0, 255, 256, 2**31, LARGEST, *near])
+
+
+def fault_wiring(rng, draft):
+    replace(rng, draft, "wiring", [2, 3, 4, 128, 255, 256, 257, 2**16, 2**31, LARGEST - 1, LARGEST])
+
+
+def fault_wired(rng, draft):
+    """Wiring 1, which no group view has; a wiring above 1 stays."""
+    draft.code = draft.code._replace(wiring=draft.code.wiring or 1)
 
 
 def fault_length(rng, draft):
@@ -486,6 +514,8 @@ FAULTS = {
     13: fault_words,
     14: fault_middle,
     15: fault_last,
+    17: fault_wiring,
+    18: fault_wired,
 }
 
 
@@ -520,11 +550,12 @@ def make_call(rng, name, index):
     if late < 0:
         draft = Draft(rng, name, CORNERS[index])
     elif name == "report" and late < len(TAILS):
-        draft = Draft(rng, name, Code(1, 14, 255, 1))
+        draft = Draft(rng, name, Code(1, 14, 255, 1, late % 2))
         draft.tail = rng.randbytes(TAILS[late])
     else:
         aimed = aims(rng, name, late)
-        draft = Draft(rng, name, pick_code(rng, 0 if 6 in aimed else None))
+        code = pick_code(rng, 0 if 6 in aimed else None)
+        draft = Draft(rng, name, code._replace(wiring=0) if name == "view" else code)  # 18 is aimed at, else 5 and 7 hide
     if rng.random() < 0.3:
         unread(rng, draft)
     for number in sorted(aimed, key=lambda a: (a in (12, 13), a)):  # those two move the rows
@@ -533,12 +564,11 @@ def make_call(rng, name, index):
 
 
 def rebuilds(rng):
-    """Good rebuilds: of every locality, one at each length, of any slot."""
-    for field, r in LOCALITIES:
-        for columns in LENGTHS:
-            n = (r + 1) * rng.randint(1, (ref.order(field) - 1) // (r + 1))
-            code = Code(field, r, n, rng.randint(1, r * n // (r + 1)))
-            yield Draft(rng, "rebuild", code, columns).finished()
+    """Good rebuilds: of every locality, one at each length, of any slot, by the wirings in turn."""
+    for turn, ((field, r), columns) in enumerate(itertools.product(LOCALITIES, LENGTHS)):
+        n = (r + 1) * rng.randint(1, (ref.order(field) - 1) // (r + 1))
+        code = Code(field, r, n, rng.randint(1, r * n // (r + 1)), turn % 2)
+        yield Draft(rng, "rebuild", code, columns).finished()
 
 
 def main():
