@@ -1,4 +1,5 @@
-"""Checks the reference: the paper's worked cases, brute force over small codes of thirteen, and which rebuilds vectors.py makes.
+"""Checks the reference: the paper's worked cases, brute force over small codes of thirteen by both wirings, and which calls
+vectors.py makes.
 
     python3 outside/selftest.py
 """
@@ -13,6 +14,7 @@ import vectors
 from reference import Code
 
 N = Code(0, 2, 9, 4)
+WIRED = N._replace(wiring=1)
 ONES = bytes([1, 1, 1, 1])
 ONES_WORD = bytes([4, 8, 7, 1, 11, 2, 0, 0, 0])
 
@@ -62,6 +64,11 @@ def test_code_numbers():
     assert refusal(Code(2, 2, 9, 4)) == 1
     legal = [[r for r in range(40) if refusal(Code(f, r, r + 1, 1)) == 0] for f in (0, 1)]
     assert legal == [[1, 2, 3, 5, 11], [2, 4, 14, 16]]
+    assert refusal(WIRED) == 0 and refusal(largest._replace(wiring=1)) == 0
+    for wiring in (2, 3, 255, 256, 257, 2**32 - 1):
+        assert refusal(N._replace(wiring=wiring)) == 17
+        assert refusal(Code(0, 2, 9, 7, wiring)) == 4
+    assert refusal(Code(0, 2, 10, 4, 1)) == 3  # 17 refuses such n too, behind 3
 
 
 def test_classroom():
@@ -79,6 +86,61 @@ def test_classroom():
     assert ref.repair(Code(0, 2, 3, 1), 0, bytes([5, 7])) == (0, 0)
 
 
+def test_wired_classroom():
+    """N by wiring 1: three groups, slot p is member p div 3 of group p mod 3."""
+    assert [ref.point(WIRED, p) for p in range(9)] == [1, 2, 4, 3, 6, 12, 9, 5, 10]
+    assert [list(ref.members(WIRED, g)) for g in range(3)] == [[0, 3, 6], [1, 4, 7], [2, 5, 8]]
+    assert ref.mates(WIRED, 4) == [1, 7]
+    word = encoded(WIRED, [1, 2, 3, 4])
+    assert encoded(WIRED, ONES) == bytes([4, 1, 0, 8, 11, 0, 7, 2, 0])
+    assert word == bytes([10, 2, 3, 9, 8, 0, 6, 0, 4])
+    assert ref.repair(WIRED, 3, bytes([10, 6])) == (0, 9)
+    assert ref.guarantee(WIRED) == 4
+    spoiled, marks = bytearray(word), bytearray(marked(9, [0, 1]))
+    spoiled[0] = spoiled[1] = 255
+    assert ref.local_pass(WIRED, spoiled, marks) == (0, 2)
+    assert spoiled == word and marks == bytes(9)
+    marks = bytearray(marked(9, [0, 3]))  # one group: neighbours of the old wiring are strangers, slots 0 and 3 are mates
+    assert ref.local_pass(WIRED, spoiled, marks) == (0, 0)
+    for lost, level, first in [([0, 1], 1, 255), ([1, 4], 2, 1), ([0, 1, 3, 4], 2, 0), ([2, 5, 7, 8], 2, 2)]:
+        assert decoded(WIRED, word, marked(9, lost)) == (0, bytes([1, 2, 3, 4]))
+        assert ref.grade(WIRED, marked(9, lost)) == (0, level)
+        assert ref.first_crowded(WIRED, marked(9, lost)) == first
+    assert decoded(WIRED, word, marked(9, [2, 5, 6, 7, 8])) == (0, bytes([1, 2, 3, 4]))
+    assert decoded(WIRED, word, marked(9, [1, 2, 4, 5, 7]))[0] == 10
+    assert ref.grade(WIRED, marked(9, [1, 2, 4, 5, 7])) == (0, 3)
+    assert decoded(WIRED, word[:8] + b"\5", bytes(9))[0] == 9
+
+
+def test_wired_bytes():
+    """The same over bytes; the guarantee of this code is 2."""
+    code, message = Code(1, 2, 9, 5, 1), bytes([1, 2, 3, 4, 255])
+    word = encoded(code, message)
+    assert word == bytes([251, 108, 97, 51, 244, 1, 53, 176, 125])
+    assert ref.guarantee(code) == 2
+    assert decoded(code, word, marked(9, [1, 4])) == (0, message)
+    assert decoded(code, word, marked(9, [0, 3, 7])) == (0, message)
+    assert decoded(code, word, marked(9, [0, 3, 6]))[0] == 10
+    assert ref.first_crowded(code, marked(9, [0, 2, 5])) == 2
+    code, out = Code(1, 4, 10, 3, 1), bytearray(16)
+    assert ref.mates(code, 7) == [1, 3, 5, 9]
+    assert ref.weights(code, 7, out) == 0 and out == bytes([68, 146, 221, 10] + [0] * 12)
+    assert ref.repair(code, 7, bytes([10, 200, 30, 140])) == (0, 241)
+
+
+def test_wired_is_permuted():
+    """Slot g + i * G of a wired codeword has the symbol of slot g * (r + 1) + i of the unwired; so for weights."""
+    rng = random.Random(5)
+    for code in itertools.chain(small_codes(11), [Code(1, 4, 25, 11), Code(1, 14, 45, 30), Code(1, 2, 255, 9)]):
+        plain, wired, count = code._replace(wiring=0), code._replace(wiring=1), ref.groups(code)
+        message = [rng.randrange(ref.order(code.field)) for _ in range(code.k)]
+        a, b = encoded(plain, message), encoded(wired, message)
+        for g in range(count):
+            for i in range(code.r + 1):
+                assert b[g + i * count] == a[g * (code.r + 1) + i]
+                assert ref.repair_weights(wired, g + i * count) == ref.repair_weights(plain, g * (code.r + 1) + i)
+
+
 def test_sighted_cases():
     """Cases that see the order of the message, and bytes."""
     assert encoded(N, [1, 2, 3, 4]) == bytes([10, 9, 6, 2, 8, 0, 3, 0, 4])
@@ -92,10 +154,10 @@ def test_sighted_cases():
 
 
 def read(data):
-    word, marks, code = bytearray(b"\xcc" * 255), bytearray(b"\xdd" * 256), [7] * 4
+    word, marks, code = bytearray(b"\xcc" * 255), bytearray(b"\xdd" * 256), [7] * 5
     refusal = ref.read_sheet(data, word, marks, code)
     if refusal:
-        assert word == b"\xcc" * 255 and marks == b"\xdd" * 256 and code == [7] * 4
+        assert word == b"\xcc" * 255 and marks == b"\xdd" * 256 and code == [7] * 5
     return refusal
 
 
@@ -114,21 +176,47 @@ def test_sheets():
         assert read(example[:16] + sheet(changed)) == 15
     assert read(sheet("10020301 2000000d 30000100 20000205 40000004")) == 6
     assert read(sheet("10020301 2000000d 31000100 20000205 40000004")) == 14
-    assert ref.read_sheet(b"123", bytearray(254), bytearray(255), [0] * 4) == 5
+    assert ref.read_sheet(b"123", bytearray(254), bytearray(255), [0] * 5) == 5
+    assert ref.read_sheet(b"123", bytearray(255), bytearray(255), [0] * 4) == 5
     assert ref.report_text(example + bytes(1009)) == "refused 11\n"
     assert ref.report_text(example + bytes(2000)) == "refused 13\n"
 
 
+def test_wired_sheets():
+    """There and back by wiring 1: bit 27 of the first word, and a number after k in the report."""
+    for first in range(256):
+        wanted = 12 if first >> 4 != 1 else 1 if first & 7 > 1 else 2 if first & 7 == 0 else 13
+        assert read(bytes([first, 4, 10, 3])) == wanted
+    for code in (WIRED, Code(1, 4, 10, 3, 1)):
+        message = bytes(range(1, code.k + 1))
+        true, marks, data = encoded(code, message), marked(code.n, [0, 3]), bytearray(4 * (code.n + 2))
+        assert ref.write_sheet(code, true, marks, data) == 0
+        assert data[0] == 0x18 + code.field and data[1:] == plain_sheet(code, true, marks)[1:]
+        word, left, numbers = bytearray(255), bytearray(255), [7] * 5
+        assert ref.read_sheet(data, word, left, numbers) == 0 and Code(*numbers) == code
+        assert left[: code.n] == marks and all(w == (0 if m else t) for w, m, t in zip(word, marks, true))
+        lines = ref.report_text(data).splitlines()
+        assert lines[0] == "code " + " ".join(map(str, code)) and lines[0].endswith(" 1")
+        assert lines[2] == "message " + " ".join(map(str, message))
+    assert read(sheet("18020a04")) == 3 and read(sheet("18020907")) == 4 and read(sheet("18020904")) == 13
+
+
+def plain_sheet(code, word, marks):
+    data = bytearray(4 * (code.n + 2))
+    assert ref.write_sheet(code._replace(wiring=0), word, marks, data) == 0
+    return data
+
+
 def test_report_size():
-    """The longest text: all of the largest code's symbols have three digits."""
-    code = Code(1, 16, 255, 240)
+    """The longest text: all of the largest code's symbols have three digits, and the wiring stands after k."""
+    code = Code(1, 16, 255, 240, 1)
     message = bytes(random.Random(1).randrange(100, 256) for _ in range(240))
     data = bytearray(4 * 257)
     assert ref.write_sheet(code, encoded(code, message), marked(255, range(0, 255, 17)), data) == 0
     text = ref.report_text(data)
     assert text.split("\n")[2] == "message " + " ".join(map(str, message))
-    longest = "code 1 16 255 240\nlost 255 sure 254 grade 3 first 255\nmessage" + 240 * " 255" + "\n"
-    assert len(text) == 1019 and len(longest) == 1022 <= ref.REPORT_TEXT
+    longest = "code 1 16 255 240 1\nlost 255 sure 254 grade 3 first 255\nmessage" + 240 * " 255" + "\n"
+    assert len(text) == 1021 and len(longest) == 1024 <= ref.REPORT_TEXT
 
 
 def test_samples():
@@ -140,10 +228,12 @@ def test_samples():
 
 
 def small_codes(most_k):
+    """Of both wirings."""
     for r in (1, 2, 3, 5, 11):
         for n in range(r + 1, 13, r + 1):
             for k in range(1, min(most_k, r * n // (r + 1)) + 1):
-                yield Code(0, r, n, k)
+                yield Code(0, r, n, k, 0)
+                yield Code(0, r, n, k, 1)
 
 
 def all_messages(code):
@@ -176,8 +266,8 @@ def test_local_repair():
 def test_repair_is_interpolation():
     """Repair is the value of the polynomial of degree below r through any mates."""
     for r in (1, 2, 3):
-        for n in range(r + 1, 13, r + 1):
-            code = Code(0, r, n, 1)
+        for n, wiring in itertools.product(range(r + 1, 13, r + 1), (0, 1)):
+            code = Code(0, r, n, 1, wiring)
             for slot in range(n):
                 xs = [ref.point(code, p) for p in ref.mates(code, slot)]
                 x = ref.point(code, slot)
@@ -217,7 +307,8 @@ def test_decode():
 def test_local_pass():
     """Groups with one loss are mended and counted; all else stays."""
     rng = random.Random(3)
-    for code in itertools.chain(small_codes(3), [Code(1, 4, 25, 11), Code(1, 14, 45, 30)]):
+    large = [Code(1, *numbers, wiring) for numbers in ((4, 25, 11), (14, 45, 30)) for wiring in (0, 1)]
+    for code in itertools.chain(small_codes(3), large):
         q = ref.order(code.field)
         true = encoded(code, [rng.randrange(q) for _ in range(code.k)])
         marks = bytearray(rng.choices((0, 1), (3, 1), k=code.n))
@@ -226,16 +317,19 @@ def test_local_pass():
         refusal, count = ref.local_pass(code, word, marks)
         sizes = [sum(left[p] for p in ref.members(code, g)) for g in range(ref.groups(code))]
         assert refusal == 0 and count == sizes.count(1)
+        crowded = [g for g, size in enumerate(sizes) if size >= 2]
+        assert ref.first_crowded(code, left) == min(crowded, default=255)
         for p in range(code.n):
-            mended = sizes[ref.group(code, p)] == 1
+            g = p % ref.groups(code) if code.wiring else p // (code.r + 1)
+            mended = sizes[g] == 1
             assert word[p] == (true[p] if mended else before[p])
             assert marks[p] == (0 if mended else left[p])
 
 
 def test_strips():
-    code, rng = Code(1, 4, 10, 7), random.Random(4)
-    words = [encoded(code, [rng.randrange(256) for _ in range(7)]) for _ in range(9)]
-    for slot in range(10):
+    rng = random.Random(4)
+    for code, slot in itertools.product((Code(1, 4, 10, 7), Code(1, 4, 10, 7, 1)), range(10)):
+        words = [encoded(code, [rng.randrange(256) for _ in range(7)]) for _ in range(9)]
         strips = b"".join(bytes(w[p] for w in words) for p in ref.mates(code, slot))
         out = bytearray(9)
         assert ref.rebuild(code, slot, strips, out) == 0
@@ -244,15 +338,43 @@ def test_strips():
 
 def test_lengths():
     """vectors.py makes good rebuilds of every locality of both fields at every length."""
-    seen = set()
+    seen, wirings = set(), set()
     for data, refusal in vectors.rebuilds(random.Random(1)):
-        _, _, field, r, _, _, _, _, strips, given = struct.unpack_from(">10I", data)
-        (columns,) = struct.unpack_from(">I", data, 40 + given)
+        _, _, field, r, _, _, wiring, _, _, strips, given = struct.unpack_from(">11I", data)
+        (columns,) = struct.unpack_from(">I", data, 44 + given)
         assert refusal == 0 and strips == r * columns
         seen.add((field, r, columns))
+        wirings |= {(field, r, wiring), (field, columns, wiring)}
     legal = [(f, r) for f in (0, 1) for r in range(40) if ref.code_refusal(Code(f, r, r + 1, 1)) == 0]
     assert seen == {(f, r, columns) for f, r in legal for columns in vectors.LENGTHS}
     assert {1, 63, 64, 65, 127, 128, 129, 255, 256, 257, 4096} <= set(vectors.LENGTHS)
+    assert {(f, x, w) for f, r, c in seen for x in (r, c) for w in (0, 1)} == wirings
+
+
+def test_vectors():
+    """vectors.py makes codes of both wirings, aims at 17 and 18 with their neighbours, and the first of these answers."""
+    rng = random.Random(6)
+    wired = sum(vectors.pick_code(rng, None).wiring for _ in range(1000))
+    assert 400 < wired < 500
+    for name, asked in vectors.QUESTIONS.items():
+        aimed = {pair for i in range(3000) for pair in itertools.permutations(vectors.aims(rng, name, i), 2)}
+        assert aimed == set(itertools.permutations(asked, 2)), name
+    pairs = [("view", pair) for pair in ((4, 17), (17, 18), (17, 5), (18, 5), (18, 7))]
+    pairs += [(name, pair) for name, asked in vectors.QUESTIONS.items() if 17 in asked for pair in ((4, 17), (17, 5))]
+    for name, pair in pairs:
+        for wiring in (0, 1):
+            draft = vectors.Draft(rng, name, N._replace(wiring=wiring if name != "view" else 0))
+            for number in pair:
+                vectors.FAULTS[number](rng, draft)
+            assert draft.finished()[1] == pair[0], (name, pair)
+    for wiring in (0, 1):
+        fields = set()
+        for _ in range(200):
+            draft = vectors.Draft(rng, "read_sheet", N._replace(wiring=wiring))
+            vectors.fault_field(rng, draft)
+            fields.add(draft.rows[0] >> 24)
+            assert draft.finished()[1] == 1
+        assert fields == {0x10 + 8 * wiring + field for field in range(2, 8)}
 
 
 def test_order():
@@ -269,6 +391,24 @@ def test_order():
     assert ref.write_sheet(N, word, marks, bytearray(44)) == 8
     assert ref.view(N, 9, bytes(8)) == (5, 0) and ref.view(N, 9, word) == (7, 0)
     assert ref.view(N, 5, word) == (0, 3)
+    above = N._replace(wiring=2)
+    assert ref.view(WIRED, 5, word) == (18, 0) and ref.view(WIRED, 9, bytes(8)) == (18, 0)
+    assert ref.view(above, 9, bytes(8)) == (17, 0) and ref.view(above._replace(k=7), 9, bytes(8)) == (4, 0)
+    assert ref.encode(above, b"\x0d", bytearray(9)) == 17 and ref.weights(above, 99, bytearray(15)) == 17
+    assert ref.repair(above, 99, b"\x0d") == (17, 0) and ref.rebuild(above, 99, b"", bytearray()) == 17
+    assert ref.local_pass(above, word, marks[1:]) == (17, 0) and ref.grade(above, marks[1:]) == (17, 0)
+    assert ref.decode(above, word, marks, bytearray(4), bytearray(44)) == 17
+    assert ref.record(above, word, marks, bytearray(4), work, [7] * 9) == 17
+    assert ref.record(N, word, bytes(9), bytearray(4), work, [7] * 9) == 5
+    assert ref.write_sheet(above, word, marks, bytearray(43)) == 17
+
+
+def test_record():
+    """Ten numbers, with the wiring after k."""
+    word, out = encoded(WIRED, ONES), [7] * 10
+    for lost, tail in [([1, 4], [2, 4, 2, 1, 0]), ([0, 1], [2, 4, 1, 255, 0]), ([1, 2, 4, 5, 7], [5, 4, 3, 1, 10])]:
+        assert ref.record(WIRED, word, marked(9, lost), bytearray(4), bytearray(45), out) == 0
+        assert out == [0, 2, 9, 4, 1, *tail]
 
 
 def main():
