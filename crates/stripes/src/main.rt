@@ -13,6 +13,7 @@ fn code_of(call: Call) -> Code {
         r: call.r,
         n: call.n,
         k: call.k,
+        wiring: call.wiring,
     }
 }
 

@@ -1,5 +1,5 @@
 // Records of calls, with the answers of a separately written program.
-// A record is the call, five numbers, the buffers before, the answer and the buffers after. A number is four bytes, the high
+// A record is the call, six numbers, the buffers before, the answer and the buffers after. A number is four bytes, the high
 // byte first. A buffer is its length, how many bytes are given, and these, which repeat; after the call it is as before past that length.
 ghost use Prim.Native.Nat.{_≤_, _<_};
 ghost use lib.ListN.{length};
@@ -151,7 +151,7 @@ fn same_wide(record: &[u8], before: usize, after: usize, buffer: &[u32]) -> bool
 
 // How many buffers of bytes the call has; read_sheet has one of numbers behind them.
 fn narrow(record: &[u8]) -> usize {
-    let all = number(record, 24) as usize;
+    let all = number(record, 28) as usize;
     match number(record, 0) {
         10 => 3,
         _ => all,
@@ -160,14 +160,14 @@ fn narrow(record: &[u8]) -> usize {
 
 // The place of buffer i before the call.
 fn before_at(record: &[u8], i: usize) -> usize {
-    buffer_at(record, 28, i)
+    buffer_at(record, 32, i)
 }
 
 // The place of the answer.
 fn answer_at(record: &[u8]) -> usize
     ensures { λ x. ⌜ x ≤ 1000000 ⌝ }
 {
-    let at = before_at(record, number(record, 24) as usize);
+    let at = before_at(record, number(record, 28) as usize);
     if at <= 1000000 {
         return at;
     }
@@ -194,19 +194,20 @@ fn length_of_numbers(record: &[u8], most: usize) -> usize
     ensures { λ x. ⌜ x ≤ most ⌝ }
 {
     let i = narrow(record);
-    if i < number(record, 24) as usize {
+    if i < number(record, 28) as usize {
         return at_most(number(record, before_at(record, i)) as usize / 4, most);
     }
     0
 }
 
-// The call, and the five numbers that it is made with.
+// The call, and the six numbers that it is made with.
 pub struct Call {
     pub number: u32,
     pub field: u32,
     pub r: u32,
     pub n: u32,
     pub k: u32,
+    pub wiring: u32,
     pub slot: u32,
 }
 
@@ -218,7 +219,8 @@ pub fn call_of(record: &[u8]) -> Call {
         r: number(record, 8),
         n: number(record, 12),
         k: number(record, 16),
-        slot: number(record, 20),
+        wiring: number(record, 20),
+        slot: number(record, 24),
     }
 }
 
