@@ -55,6 +55,13 @@ def decodes(code, word, marks, message, work):
     line(refusal, *ref.grade(code, marks), *message)
 
 
+def breaks(code, marks):
+    """The first crowded group; its questions are those of the grade."""
+    refusal, _ = ref.grade(code, marks)
+    head("first", code)
+    line(refusal, 0 if refusal else ref.first_crowded(code, marks))
+
+
 def classroom():
     code = ref.Code(0, 2, 9, 4)
     word = bytes([4, 8, 7, 1, 11, 2, 0, 0, 0])
@@ -80,10 +87,12 @@ def classroom():
 
 def questions():
     ones = bytes([1, 1, 1, 1])
-    for numbers in [(2, 2, 9, 4), (0, 4, 10, 4), (0, 2, 10, 4), (0, 2, 15, 4), (0, 2, 9, 7), (0, 2, 9, 0)]:
+    refused = [(2, 2, 9, 4), (0, 4, 10, 4), (0, 2, 10, 4), (0, 2, 15, 4), (0, 2, 9, 7), (0, 2, 9, 0)]
+    for numbers in [*refused, (0, 2, 9, 7, 2), (0, 2, 9, 4, 2)]:
         encodes(ref.Code(*numbers), ones, bytearray(9))
+    views(ref.Code(0, 2, 9, 4, 2), 4, bytes([4]))
     encodes(ref.Code(0, 2, 9, 4), ones[:3], bytearray(9))
-    encodes(ref.Code(*[2**32 - 1] * 4), ones[:1], bytearray(9))
+    encodes(ref.Code(*[2**32 - 1] * 5), ones[:1], bytearray(9))
 
 
 def other_codes():
@@ -94,6 +103,22 @@ def other_codes():
     repairs(code, 7, bytes([10, 200, 30, 140]))
     rebuilds(code, 7, bytes([10, 0, 1, 200, 0, 2, 30, 0, 3, 140, 0, 4]), bytearray(3))
     rebuilds(code, 7, b"", bytearray(0))
+
+
+def wired(field, *message):
+    """Every call on a code with wiring 1 and the guarantee 4; the slots that are lost first hold no symbols."""
+    code, word = ref.Code(field, 2, 9, 4, 1), bytearray(9)
+    encodes(code, bytes(message), word)
+    word[:2] = [255, 255]
+    weighs(code, 4)
+    repairs(code, 4, bytes([10, 6]))
+    rebuilds(code, 4, bytes([10, 0, 1, 6, 0, 2]), bytearray(3))
+    views(code, 4, bytes([10]))
+    for text in ("110110000", "111001001", "110110100"):
+        decodes(code, word, bytes(map(int, text)), bytearray([7] * 4), bytearray(45))
+    for text in ("110000000", "010010000"):
+        breaks(code, bytes(map(int, text)))
+    passes(code, word, bytearray([1, 1] + [0] * 7))
 
 
 def corner(*numbers):
@@ -110,8 +135,11 @@ if __name__ == "__main__":
     classroom()
     questions()
     other_codes()
+    wired(0, 1, 2, 3, 4)
+    wired(1, 1, 2, 3, 255)
     corner(0, 1, 12, 6)
     corner(0, 11, 12, 11)
     corner(0, 2, 12, 1)
     corner(1, 14, 30, 5)
     corner(1, 16, 255, 240)
+    corner(1, 4, 10, 3, 1)

@@ -2,14 +2,20 @@
 use code::Answer;
 use code::Code;
 
-// A code of four numbers.
-pub fn code_of(field: u32, r: u32, n: u32, k: u32) -> Code {
-    Code { field, r, n, k }
+// A code of five numbers.
+pub fn code_of(field: u32, r: u32, n: u32, k: u32, wiring: u32) -> Code {
+    Code {
+        field,
+        r,
+        n,
+        k,
+        wiring,
+    }
 }
 
 // The classroom sheet's code N.
 pub fn class() -> Code {
-    code_of(0, 2, 9, 4)
+    code_of(0, 2, 9, 4, 0)
 }
 
 // The first bytes of a room.
@@ -27,6 +33,7 @@ fn head(name: &[u8], code: Code) {
     show::put(code.r);
     show::put(code.n);
     show::put(code.k);
+    show::put(code.wiring);
     io::write_all(1, b"= ");
 }
 
@@ -84,6 +91,11 @@ pub fn put_mended(code: Code, answer: Answer, word: &[u8], marks: &[u8]) {
     put_value(b"pass ", code, answer);
     show::put_line(word);
     show::put_line(marks);
+}
+
+// The first group with more losses than it stands.
+pub fn breaks(code: Code, marks: &[u8]) {
+    put_value(b"first ", code, grading::first_broken(code, marks));
 }
 
 // Work for the longest code, which need not be clear.

@@ -58,11 +58,12 @@ fn corner(code: Code, used: usize) {
     calls::put_mended(code, answer, word, marks);
 }
 
-// r 1; one group only; k 1; a large r; and the longest code, with the guarantee 1.
+// r 1; one group only; k 1; a large r; the longest code, with the guarantee 1; and two groups that are wired.
 pub fn corners() {
-    corner(calls::code_of(0, 1, 12, 6), 84);
-    corner(calls::code_of(0, 11, 12, 11), 144);
-    corner(calls::code_of(0, 2, 12, 1), 24);
-    corner(calls::code_of(1, 14, 30, 5), 180);
-    corner(calls::code_of(1, 16, 255, 240), 61455);
+    corner(calls::code_of(0, 1, 12, 6, 0), 84);
+    corner(calls::code_of(0, 11, 12, 11, 0), 144);
+    corner(calls::code_of(0, 2, 12, 1, 0), 24);
+    corner(calls::code_of(1, 14, 30, 5, 0), 180);
+    corner(calls::code_of(1, 16, 255, 240, 0), 61455);
+    corner(calls::code_of(1, 4, 10, 3, 1), 40);
 }

@@ -2,6 +2,7 @@
 
 mod calls;
 mod corners;
+mod wired;
 
 // The classroom sheet's code N: encoding.
 fn classroom_encoding() {
@@ -17,7 +18,7 @@ fn classroom_repair() {
     calls::weighs(code, 0);
     calls::weighs(code, 9);
     calls::repairs(code, 0, b"\x08\x07");
-    calls::repairs(calls::code_of(0, 2, 3, 1), 0, b"\x05\x07");
+    calls::repairs(calls::code_of(0, 2, 3, 1, 0), 0, b"\x05\x07");
     calls::views(code, 4, b"\x04\x08\x07\x01\x0b\x02\x00\x00\x00");
     calls::views(code, 9, b"\x04\x08\x07\x01\x0b\x02\x00\x00\x00");
 }
@@ -48,32 +49,36 @@ fn classroom_losses() {
 }
 
 // Encodes four ones for a code.
-fn asks(field: u32, r: u32, n: u32, k: u32) {
-    calls::encodes(calls::code_of(field, r, n, k), b"\x01\x01\x01\x01", 9);
+fn asks(field: u32, r: u32, n: u32, k: u32, wiring: u32) {
+    let code = calls::code_of(field, r, n, k, wiring);
+    calls::encodes(code, b"\x01\x01\x01\x01", 9);
 }
 
-// Questions 1 to 5 as encode asks them.
+// Questions 1 to 5 and 17 as encode asks them, and 17 before 18 as the view does.
 fn questions() {
-    asks(2, 2, 9, 4);
-    asks(0, 4, 10, 4);
-    asks(0, 2, 10, 4);
-    asks(0, 2, 15, 4);
-    asks(0, 2, 9, 7);
-    asks(0, 2, 9, 0);
+    asks(2, 2, 9, 4, 0);
+    asks(0, 4, 10, 4, 0);
+    asks(0, 2, 10, 4, 0);
+    asks(0, 2, 15, 4, 0);
+    asks(0, 2, 9, 7, 0);
+    asks(0, 2, 9, 0, 0);
+    asks(0, 2, 9, 7, 2);
+    asks(0, 2, 9, 4, 2);
+    calls::views(calls::code_of(0, 2, 9, 4, 2), 4, b"\x04");
     calls::encodes(calls::class(), b"\x01\x01\x01", 9);
-    let large = calls::code_of(4294967295, 4294967295, 4294967295, 4294967295);
+    let large = calls::code_of(4294967295, 4294967295, 4294967295, 4294967295, 4294967295);
     calls::encodes(large, b"\x01", 9);
 }
 
 // Codes over bytes and over thirteen that the classroom does not see.
 fn other_codes() {
     calls::encodes(
-        calls::code_of(0, 3, 12, 7),
+        calls::code_of(0, 3, 12, 7, 0),
         b"\x01\x02\x03\x04\x05\x06\x07",
         12,
     );
-    calls::encodes(calls::code_of(1, 2, 9, 5), b"\x01\x02\x03\x04\xff", 9);
-    let code = calls::code_of(1, 4, 10, 3);
+    calls::encodes(calls::code_of(1, 2, 9, 5, 0), b"\x01\x02\x03\x04\xff", 9);
+    let code = calls::code_of(1, 4, 10, 3, 0);
     calls::weighs(code, 7);
     calls::repairs(code, 7, b"\x0a\xc8\x1e\x8c");
     calls::rebuilds(
@@ -91,5 +96,6 @@ fn main() {
     classroom_losses();
     questions();
     other_codes();
+    wired::wired_codes();
     corners::corners();
 }
