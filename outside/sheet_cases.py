@@ -32,7 +32,7 @@ def changed(data, word, value):
 
 
 def samples(rng):
-    small = (0, 2, 9, 4)
+    small, wired = (0, 2, 9, 4), (0, 2, 9, 4, 1)
     yield bytes.fromhex("1002030120000005300001002000020540000003")
     yield sheet(*stripe(rng, small, range(4)))
     yield sheet(*stripe(rng, small, [2, 5, 6, 7, 8]))
@@ -57,6 +57,23 @@ def samples(rng):
     yield changed(good, 10, 4 << 28 | 8)  # 15
     yield changed(changed(good, 3, 2 << 28 | 2 << 8 | 13), 10, 0)  # 6 before 15
     yield sheet(*stripe(rng, (1, 16, 255, 240), [])) + b"\0" * 8  # the first 1,032 bytes: 13
+    yield sheet(*stripe(rng, wired, range(3)))  # one to a group
+    yield sheet(*stripe(rng, wired, [1, 2, 4, 7]))
+    yield sheet(*stripe(rng, wired, [2, 5, 6, 7, 8]))
+    yield sheet(*stripe(rng, wired, [1, 2, 4, 5, 7]))  # undecided
+    yield sheet(*stripe(rng, (1, 2, 9, 5, 1), [1, 4]))
+    yield sheet(*stripe(rng, (1, 4, 20, 6, 1), (p for p in range(20) if p % 3)))
+    yield sheet(*stripe(rng, (1, 2, 9, 5, 1), [0, 3, 6]))  # undecided
+    good = sheet(*stripe(rng, wired, []))
+    yield good
+    yield changed(good, 0, 0x10020904)  # foreign by the other wiring
+    yield changed(good, 0, 0x19020904)  # bytes
+    yield changed(good, 0, 0x1A020904)  # 1
+    yield changed(good, 0, 0x1F020904)  # 1
+    yield changed(good, 0, 0x18040904)  # 2
+    yield changed(good, 0, 0x18020A04)  # 3
+    yield changed(good, 0, 0x18020907)  # 4
+    yield good[:-4]  # 13
 
 
 if __name__ == "__main__":
