@@ -32,7 +32,10 @@ def line(*words):
 def sheet(code, message, codeword):
     lines = [line("powers", *(ref.power(0, ref.GAMMA, e) for e in range(12)))]
     for g in range(ref.groups(code)):
-        lines.append(line("group", g, "points", *(ref.point(code, p) for p in ref.members(code, g))))
+        slots = ["slots", *ref.members(code, g)] if code.wiring else []
+        lines.append(line("group", g, *slots, "points", *(ref.point(code, p) for p in ref.members(code, g))))
+    if code.wiring:
+        lines.append(line("points", *(ref.point(code, p) for p in range(code.n))))
     lines.append(line("polynomial", *(f"{s} x^{ref.exponent(code, m)}" for m, s in enumerate(message))))
     lines.append(line("codeword", *codeword))
     for p in range(code.n):
@@ -52,13 +55,15 @@ def answer(data):
     if len(data) > MOST:
         return refused(b"the input is longer than 4,096 bytes")
     words = data.split()  # at the six characters of white space
+    wiring = int(words[:1] == [b"wired"])
+    words = words[wiring:]  # the numbers, which are counted from 1 behind that word
     for i, word in enumerate(words):
         if any(b not in b"0123456789" for b in word):
             return refused_number(words, i, b"a number is digits 0 to 9, and white space parts numbers")
     if len(words) < 3:
         return refused(b"fewer than three numbers: r, n, k and k message symbols are wanted")
     r, n, k, *message = (int(word.lstrip(b"0")[:9] or b"0") for word in words)
-    code = ref.Code(0, r, n, k)
+    code = ref.Code(0, r, n, k, wiring)
     refusal = ref.code_refusal(code)
     if refusal:
         return refused_number(words, *REASONS[refusal])
