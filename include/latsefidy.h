@@ -1,10 +1,15 @@
 /* latsefidy.h: a locally repairable erasure code (Tamo and Barg, 2014), proved
  *
- * A code is four numbers: field, r, n, k. A message of k symbols becomes a codeword of n symbols,
- * one for each drive slot, 0 to n - 1. Field 0 has the q = 13 symbols 0 to 12, field 1 the q = 256
- * bytes. A symbol is one byte. The slots are cut into groups of r + 1; any one symbol of a group is
- * repaired from the other r, its mates. Up to the guarantee, n - k - ceil(k / r) + 1, any lost
- * symbols are decoded.
+ * A code is five numbers: field, r, n, k, wiring. A message of k symbols becomes a codeword of n
+ * symbols, one for each drive slot, 0 to n - 1. Field 0 has the q = 13 symbols 0 to 12, field 1 the
+ * q = 256 bytes. A symbol is one byte. The slots are in G = n / (r + 1) groups of r + 1; any one
+ * symbol of a group is repaired from the other r, its mates. Up to the guarantee,
+ * n - k - ceil(k / r) + 1, any lost symbols are decoded.
+ *
+ * Wiring. It says which slots make a group. Under wiring 0 they stand side by side: slot p is
+ * member p mod (r + 1) of group p div (r + 1). Under wiring 1 the groups are spread: slot p is
+ * member p div G of group p mod G, so that G slots side by side, as on a shelf, have one of each
+ * group. The symbol of a member of a group is the same under both; only its slot differs.
  *
  * Marks are a byte a slot: 0 kept, 1 lost. A lost slot may hold any byte; it is never read. A wrong
  * symbol in a slot that is marked as kept is not covered: decode may refuse it (9), or give another
@@ -33,10 +38,11 @@
  * Refusals. A call asks questions; the first "no" ends it with that number, and every buffer is
  * then as it was. (Under 9 and 10 alone decode clears the front of work.) 0 is no refusal. Every
  * call with a code first asks of it, in this order:
- *   1  is field 0 or 1?
- *   2  is r from 1 to 16, and does r + 1 divide q - 1? (field 0: 1 2 3 5 11; field 1: 2 4 14 16)
- *   3  is n a multiple of r + 1, from r + 1 to q - 1?
- *   4  is k from 1 to r * n / (r + 1)?
+ *   1   is field 0 or 1?
+ *   2   is r from 1 to 16, and does r + 1 divide q - 1? (field 0: 1 2 3 5 11; field 1: 2 4 14 16)
+ *   3   is n a multiple of r + 1, from r + 1 to q - 1?
+ *   4   is k from 1 to r * n / (r + 1)?
+ *   17  is the wiring 0, or 1 with n a multiple of r + 1?
  *
  * Where a call answers a value, the refusal is in the high 32 bits and the value in the low; the
  * value of a refused call is 0.
@@ -52,20 +58,20 @@ extern "C" {
 #endif
 
 #define LATSEFIDY_VERSION_MAJOR 0
-#define LATSEFIDY_VERSION_MINOR 2
-#define LATSEFIDY_VERSION_PATCH 1
-#define LATSEFIDY_VERSION "0.2.1"
+#define LATSEFIDY_VERSION_MINOR 3
+#define LATSEFIDY_VERSION_PATCH 0
+#define LATSEFIDY_VERSION "0.3.0"
 
 #define LATSEFIDY_WEIGHTS 16       /* length of a weights buffer */
 #define LATSEFIDY_STRIP_MOST 4096  /* most symbols of one strip */
 #define LATSEFIDY_WORK_MOST 61455  /* work that is enough for every code */
-#define LATSEFIDY_RECORD 9         /* numbers of a record */
-#define LATSEFIDY_CODE 4           /* numbers of a code */
+#define LATSEFIDY_RECORD 10        /* numbers of a record */
+#define LATSEFIDY_CODE 5           /* numbers of a code */
 #define LATSEFIDY_SHEET_LEAST 255  /* least word and marks of the sheet reader */
 #define LATSEFIDY_REPORT_MOST 1032 /* most bytes of input that the report judges */
 #define LATSEFIDY_REPORT_TEXT 1032 /* least text buffer of the report */
 
-/* The number of each refusal. */
+/* The number of each refusal; 16 is none. */
 enum latsefidy_refusals {
     LATSEFIDY_OK = 0,
     LATSEFIDY_REFUSAL_FIELD = 1,
@@ -82,7 +88,9 @@ enum latsefidy_refusals {
     LATSEFIDY_REFUSAL_SHEET_START = 12,
     LATSEFIDY_REFUSAL_SHEET_COUNT = 13,
     LATSEFIDY_REFUSAL_SHEET_SLOT = 14,
-    LATSEFIDY_REFUSAL_SHEET_END = 15
+    LATSEFIDY_REFUSAL_SHEET_END = 15,
+    LATSEFIDY_REFUSAL_WIRING = 17,
+    LATSEFIDY_REFUSAL_VIEW_WIRED = 18
 };
 
 /* What a refusal says, in English, without its number. */
@@ -104,6 +112,8 @@ static inline const char *latsefidy_refusal_text(uint32_t number) {
     case LATSEFIDY_REFUSAL_SHEET_COUNT: return "the sheet has not n + 2 words";
     case LATSEFIDY_REFUSAL_SHEET_SLOT: return "a middle word of the sheet is wrong";
     case LATSEFIDY_REFUSAL_SHEET_END: return "the last word of the sheet is wrong";
+    case LATSEFIDY_REFUSAL_WIRING: return "the wiring is above 1, or 1 with n no multiple of r + 1";
+    case LATSEFIDY_REFUSAL_VIEW_WIRED: return "a group view wants wiring 0";
     default: return "no such refusal";
     }
 }
@@ -117,74 +127,77 @@ static inline uint32_t latsefidy_value(uint64_t answer) { return (uint32_t)answe
 /* Encodes a message.
  *   message   k symbols
  *   codeword  n symbols, written
- * Returns 0 or the refusal, asked in the order 1 2 3 4 5 6:
- *   1 to 4  the code
+ * Returns 0 or the refusal, asked in the order 1 2 3 4 17 5 6:
+ *   1 to 4  the code, and 17 its wiring
  *   5       message_len is not k, or codeword_len is not n
  *   6       a message symbol is q or more
  */
-uint32_t latsefidy_encode(uint32_t field, uint32_t r, uint32_t n, uint32_t k,
+uint32_t latsefidy_encode(uint32_t field, uint32_t r, uint32_t n, uint32_t k, uint32_t wiring,
                           const uint8_t *message, size_t message_len,
                           uint8_t *codeword, size_t codeword_len);
 
 /* The r repair weights of a slot, in slot order of its mates: the slot's symbol is the sum of
  * weight times mate.
  *   weights   16 bytes, written: r weights and then zeros
- * Returns 0 or the refusal, asked in the order 1 2 3 4 5 7:
- *   1 to 4  the code
+ * Returns 0 or the refusal, asked in the order 1 2 3 4 17 5 7:
+ *   1 to 4  the code, and 17 its wiring
  *   5       weights_len is not 16
  *   7       slot is n or more
  */
-uint32_t latsefidy_weights(uint32_t field, uint32_t r, uint32_t n, uint32_t k, uint32_t slot,
-                           uint8_t *weights, size_t weights_len);
+uint32_t latsefidy_weights(uint32_t field, uint32_t r, uint32_t n, uint32_t k, uint32_t wiring,
+                           uint32_t slot, uint8_t *weights, size_t weights_len);
 
 /* Repairs one symbol: the value, at the slot's point, of the polynomial of degree below r through
  * the mates.
  *   mates     r symbols: the other members of the slot's group, in slot order
- * Returns the refusal (high) and the slot's symbol (low). Asked in the order 1 2 3 4 5 7 6:
- *   1 to 4  the code
+ * Returns the refusal (high) and the slot's symbol (low). Asked in the order 1 2 3 4 17 5 7 6:
+ *   1 to 4  the code, and 17 its wiring
  *   5       mates_len is not r
  *   7       slot is n or more
  *   6       a mate is q or more
  */
-uint64_t latsefidy_repair(uint32_t field, uint32_t r, uint32_t n, uint32_t k, uint32_t slot,
-                          const uint8_t *mates, size_t mates_len);
+uint64_t latsefidy_repair(uint32_t field, uint32_t r, uint32_t n, uint32_t k, uint32_t wiring,
+                          uint32_t slot, const uint8_t *mates, size_t mates_len);
 
 /* Rebuilds a strip, many symbols of one slot: symbol c of the strip is the repair of symbol c of
  * each mate's strip. The repair weights are worked out once a call, not for each symbol.
  *   strips    r * out_len symbols: the mates' strips in slot order, end to end
  *   out       1 to 4,096 symbols, written
- * Returns 0 or the refusal, asked in the order 1 2 3 4 5 7 6:
- *   1 to 4  the code
+ * Returns 0 or the refusal, asked in the order 1 2 3 4 17 5 7 6:
+ *   1 to 4  the code, and 17 its wiring
  *   5       out_len is 0 or above 4,096, or strips_len is not r * out_len
  *   7       slot is n or more
  *   6       a symbol of the strips is q or more
  */
-uint32_t latsefidy_rebuild(uint32_t field, uint32_t r, uint32_t n, uint32_t k, uint32_t slot,
-                           const uint8_t *strips, size_t strips_len,
+uint32_t latsefidy_rebuild(uint32_t field, uint32_t r, uint32_t n, uint32_t k, uint32_t wiring,
+                           uint32_t slot, const uint8_t *strips, size_t strips_len,
                            uint8_t *out, size_t out_len);
 
-/* Finds the group of a slot in a word: its r + 1 symbols start at the slot that is answered.
+/* Finds the group of a slot in a word, under wiring 0: its r + 1 symbols start at the slot that is
+ * answered.
  *   word      n symbols, not read
- * Returns the refusal (high) and the first slot of the group (low). Asked in the order 1 2 3 4 5 7:
- *   1 to 4  the code
+ * Returns the refusal (high) and the first slot of the group (low). Asked in the order
+ * 1 2 3 4 17 18 5 7:
+ *   1 to 4  the code, and 17 its wiring
+ *   18      the wiring is 1: the group is no stretch of the word
  *   5       word_len is not n
  *   7       slot is n or more
  */
-uint64_t latsefidy_view(uint32_t field, uint32_t r, uint32_t n, uint32_t k, uint32_t slot,
-                        const uint8_t *word, size_t word_len);
+uint64_t latsefidy_view(uint32_t field, uint32_t r, uint32_t n, uint32_t k, uint32_t wiring,
+                        uint32_t slot, const uint8_t *word, size_t word_len);
 
-/* Repairs the lost symbol of each group with exactly one loss and sets its mark to 0. All else
- * stays.
+/* Repairs the lost symbol of each group with exactly one loss, in the group's own slots, and sets
+ * its mark to 0. All else stays.
  *   word      n symbols, changed
  *   marks     n marks, changed
  * Returns the refusal (high) and the number of groups repaired (low). Asked in the order
- * 1 2 3 4 5 8 6:
- *   1 to 4  the code
+ * 1 2 3 4 17 5 8 6:
+ *   1 to 4  the code, and 17 its wiring
  *   5       word_len or marks_len is not n
  *   8       a mark is neither 0 nor 1
  *   6       a kept symbol of a group with exactly one loss is q or more
  */
-uint64_t latsefidy_local_pass(uint32_t field, uint32_t r, uint32_t n, uint32_t k,
+uint64_t latsefidy_local_pass(uint32_t field, uint32_t r, uint32_t n, uint32_t k, uint32_t wiring,
                               uint8_t *word, size_t word_len,
                               uint8_t *marks, size_t marks_len);
 
@@ -194,15 +207,15 @@ uint64_t latsefidy_local_pass(uint32_t field, uint32_t r, uint32_t n, uint32_t k
  *   message   k symbols, written where the answer is 0
  *   work      at least n * (k + 1) bytes; 61,455 are enough for every code. Where the answer is 0,
  *             9 or 10 the first n * (k + 1) are 0 at the end; the rest is unchanged
- * Returns 0 or the refusal, asked in the order 1 2 3 4 5 8 6 9 10:
- *   1 to 4  the code
+ * Returns 0 or the refusal, asked in the order 1 2 3 4 17 5 8 6 9 10:
+ *   1 to 4  the code, and 17 its wiring
  *   5       word_len or marks_len is not n, message_len is not k, or work_len is below n * (k + 1)
  *   8       a mark is neither 0 nor 1
  *   6       a kept symbol is q or more
  *   9       no codeword agrees with every kept symbol
  *   10      more than one does
  */
-uint32_t latsefidy_decode(uint32_t field, uint32_t r, uint32_t n, uint32_t k,
+uint32_t latsefidy_decode(uint32_t field, uint32_t r, uint32_t n, uint32_t k, uint32_t wiring,
                           const uint8_t *word, size_t word_len,
                           const uint8_t *marks, size_t marks_len,
                           uint8_t *message, size_t message_len,
@@ -211,28 +224,28 @@ uint32_t latsefidy_decode(uint32_t field, uint32_t r, uint32_t n, uint32_t k,
 /* Grades the losses: 0 nothing is lost; else 1 no group has more than one loss; else 2 the number
  * lost is at most the guarantee; else 3.
  *   marks     n marks
- * Returns the refusal (high) and the grade (low). Asked in the order 1 2 3 4 5 8:
- *   1 to 4  the code
+ * Returns the refusal (high) and the grade (low). Asked in the order 1 2 3 4 17 5 8:
+ *   1 to 4  the code, and 17 its wiring
  *   5       marks_len is not n
  *   8       a mark is neither 0 nor 1
  */
-uint64_t latsefidy_grade(uint32_t field, uint32_t r, uint32_t n, uint32_t k,
+uint64_t latsefidy_grade(uint32_t field, uint32_t r, uint32_t n, uint32_t k, uint32_t wiring,
                          const uint8_t *marks, size_t marks_len);
 
 /* Decodes and fills the stripe's record.
  *   word, marks, message, work   as in decode; message is unchanged where the outcome is not 0, and
  *             where the answer is 0 the first n * (k + 1) bytes of work are 0 at the end
- *   record    9 numbers, written where the answer is 0:
- *             field, r, n, k, number lost, guarantee, grade, first group with two or more losses
- *             (255 if none), outcome: 0 decided, 9 foreign (no codeword agrees), 10 undecided
- *             (more than one does)
- * Returns 0 or the refusal, asked in the order 1 2 3 4 5 8 6:
- *   1 to 4  the code
- *   5       a length is not as in decode, or record_len is not 9
+ *   record    10 numbers, written where the answer is 0:
+ *             field, r, n, k, wiring, number lost, guarantee, grade, first group with two or more
+ *             losses (255 if none), outcome: 0 decided, 9 foreign (no codeword agrees),
+ *             10 undecided (more than one does)
+ * Returns 0 or the refusal, asked in the order 1 2 3 4 17 5 8 6:
+ *   1 to 4  the code, and 17 its wiring
+ *   5       a length is not as in decode, or record_len is not 10
  *   8       a mark is neither 0 nor 1
  *   6       a kept symbol is q or more
  */
-uint32_t latsefidy_record(uint32_t field, uint32_t r, uint32_t n, uint32_t k,
+uint32_t latsefidy_record(uint32_t field, uint32_t r, uint32_t n, uint32_t k, uint32_t wiring,
                           const uint8_t *word, size_t word_len,
                           const uint8_t *marks, size_t marks_len,
                           uint8_t *message, size_t message_len,
@@ -241,7 +254,7 @@ uint32_t latsefidy_record(uint32_t field, uint32_t r, uint32_t n, uint32_t k,
 
 /* Reads a stripe sheet: words of 32 bits, high byte first. The top four bits are the kind, bits
  * that are not named are 0.
- *   kind 1, code  bits 27-24 field, 23-16 r, 15-8 n, 7-0 k
+ *   kind 1, code  bit 27 wiring, bits 26-24 field, 23-16 r, 15-8 n, 7-0 k
  *   kind 2, kept  bits 15-8 slot, 7-0 symbol
  *   kind 3, lost  bits 15-8 slot
  *   kind 4, end   bits 15-0 n
@@ -249,12 +262,12 @@ uint32_t latsefidy_record(uint32_t field, uint32_t r, uint32_t n, uint32_t k,
  *   sheet     the sheet, of any length
  *   word      at least 255 bytes; its first n are written, with 0 for a lost symbol
  *   marks     at least 255 bytes; its first n are written
- *   code      4 numbers, written: field, r, n, k
- * Returns 0 or the refusal, asked in the order 5 11 12 1 2 3 4 13 14 6 15:
- *   5       word_len or marks_len is below 255, or code_len is not 4
+ *   code      5 numbers, written: field, r, n, k, wiring
+ * Returns 0 or the refusal, asked in the order 5 11 12 1 2 3 4 17 13 14 6 15:
+ *   5       word_len or marks_len is below 255, or code_len is not 5
  *   11      sheet_len is no multiple of 4
  *   12      there is no first word, or it is not of kind 1
- *   1 to 4  the code
+ *   1 to 4  the code, and 17 its wiring
  *   13      there are not n + 2 words
  *   14      a middle word is not of kind 2 or 3 for its slot, or has an unnamed bit
  *   6       a kept symbol is q or more
@@ -269,20 +282,21 @@ uint32_t latsefidy_read_sheet(const uint8_t *sheet, size_t sheet_len,
  *   word      n symbols
  *   marks     n marks
  *   sheet     4 * (n + 2) bytes, written
- * Returns 0 or the refusal, asked in the order 1 2 3 4 5 8 6:
- *   1 to 4  the code
+ * Returns 0 or the refusal, asked in the order 1 2 3 4 17 5 8 6:
+ *   1 to 4  the code, and 17 its wiring
  *   5       word_len or marks_len is not n, or sheet_len is not 4 * (n + 2)
  *   8       a mark is neither 0 nor 1
  *   6       a kept symbol is q or more
  */
-uint32_t latsefidy_write_sheet(uint32_t field, uint32_t r, uint32_t n, uint32_t k,
+uint32_t latsefidy_write_sheet(uint32_t field, uint32_t r, uint32_t n, uint32_t k, uint32_t wiring,
                                const uint8_t *word, size_t word_len,
                                const uint8_t *marks, size_t marks_len,
                                uint8_t *sheet, size_t sheet_len);
 
-/* Writes what the report program prints for a sheet: its code, its losses, its message. A refused
- * sheet is no refusal of the call: its text is "refused" and the number. The text has no byte 0
- * at its end. The call takes about 66 kilobytes of stack.
+/* Writes what the report program prints for a sheet: its code, its losses, its message. The code is
+ * field, r, n, k, and under wiring 1 alone the wiring after them. A refused sheet is no refusal of
+ * the call: its text is "refused" and the number. The text has no byte 0 at its end. The call takes
+ * about 66 kilobytes of stack.
  *   input     the sheet, of any length; the first 1,032 bytes are judged
  *   text      at least 1,032 bytes; the text is written at its front and the rest is unchanged
  * Returns the refusal (high) and the length of the text (low). Asked:
