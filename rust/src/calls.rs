@@ -7,7 +7,8 @@ use crate::{Code, Record, WEIGHTS};
 // SAFETY, for every call below: a slice is a valid pointer, never null, with its length, and Rust's
 // borrows keep a mutable slice apart from the others. The library has no other condition.
 impl Code {
-    /// Writes the n symbols of the message's codeword. The message has k symbols.
+    /// Writes the n symbols of the message's codeword. The message has k symbols. Wiring 1 puts the
+    /// same symbols in other slots.
     ///
     /// ```
     /// use latsefidy::{Code, Refusal};
@@ -18,12 +19,14 @@ impl Code {
     /// assert_eq!(codeword, [10, 9, 6, 2, 8, 0, 3, 0, 4]);
     /// assert_eq!(code.encode(&[1, 2, 3], &mut codeword), Err(Refusal::Length));
     /// assert_eq!(code.encode(&[1, 2, 3, 13], &mut codeword), Err(Refusal::Symbol));
+    /// Code::with_wiring(0, 2, 9, 4, 1)?.encode(&[1, 2, 3, 4], &mut codeword)?;
+    /// assert_eq!(codeword, [10, 2, 3, 9, 8, 0, 6, 0, 4]);
     /// # Ok::<(), Refusal>(())
     /// ```
     pub fn encode(self, message: &[u8], codeword: &mut [u8]) -> Result<(), Refusal> {
-        let Code { field, r, n, k } = self;
+        let Code { field, r, n, k, wiring } = self;
         let (to, len) = (codeword.as_mut_ptr(), codeword.len());
-        accepted(unsafe { raw::latsefidy_encode(field, r, n, k, message.as_ptr(), message.len(), to, len) })
+        accepted(unsafe { raw::latsefidy_encode(field, r, n, k, wiring, message.as_ptr(), message.len(), to, len) })
     }
 
     /// The r repair weights of a slot, in slot order of its mates, and then zeros: the slot's symbol
@@ -35,9 +38,9 @@ impl Code {
     /// # Ok::<(), latsefidy::Refusal>(())
     /// ```
     pub fn weights(self, slot: u32) -> Result<[u8; WEIGHTS], Refusal> {
-        let Code { field, r, n, k } = self;
+        let Code { field, r, n, k, wiring } = self;
         let mut weights = [0; WEIGHTS];
-        accepted(unsafe { raw::latsefidy_weights(field, r, n, k, slot, weights.as_mut_ptr(), WEIGHTS) })?;
+        accepted(unsafe { raw::latsefidy_weights(field, r, n, k, wiring, slot, weights.as_mut_ptr(), WEIGHTS) })?;
         Ok(weights)
     }
 
@@ -46,11 +49,14 @@ impl Code {
     /// ```
     /// let code = latsefidy::Code::new(0, 2, 9, 4)?;
     /// assert_eq!(code.repair(0, &[8, 7])?, 4); // the mates of slot 0 are slots 1 and 2
+    /// let wired = latsefidy::Code::with_wiring(0, 2, 9, 4, 1)?;
+    /// assert_eq!(wired.repair(0, &[8, 7])?, 4); // they are slots 3 and 6
     /// # Ok::<(), latsefidy::Refusal>(())
     /// ```
     pub fn repair(self, slot: u32, mates: &[u8]) -> Result<u8, Refusal> {
-        let Code { field, r, n, k } = self;
-        let symbol = value(unsafe { raw::latsefidy_repair(field, r, n, k, slot, mates.as_ptr(), mates.len()) })?;
+        let Code { field, r, n, k, wiring } = self;
+        let symbol =
+            value(unsafe { raw::latsefidy_repair(field, r, n, k, wiring, slot, mates.as_ptr(), mates.len()) })?;
         Ok(symbol as u8)
     }
 
@@ -66,21 +72,27 @@ impl Code {
     /// # Ok::<(), latsefidy::Refusal>(())
     /// ```
     pub fn rebuild(self, slot: u32, strips: &[u8], out: &mut [u8]) -> Result<(), Refusal> {
-        let Code { field, r, n, k } = self;
+        let Code { field, r, n, k, wiring } = self;
         let (to, len) = (out.as_mut_ptr(), out.len());
-        accepted(unsafe { raw::latsefidy_rebuild(field, r, n, k, slot, strips.as_ptr(), strips.len(), to, len) })
+        accepted(unsafe {
+            raw::latsefidy_rebuild(field, r, n, k, wiring, slot, strips.as_ptr(), strips.len(), to, len)
+        })
     }
 
-    /// The part of the word that is the slot's whole group.
+    /// The part of the word that is the slot's whole group. Under wiring 1 a group is no part of the
+    /// word: refusal 18.
     ///
     /// ```
-    /// let code = latsefidy::Code::new(0, 2, 9, 4)?;
-    /// assert_eq!(code.view(4, &[4, 8, 7, 1, 11, 2, 0, 0, 0])?, [1, 11, 2]);
-    /// # Ok::<(), latsefidy::Refusal>(())
+    /// use latsefidy::{Code, Refusal};
+    ///
+    /// let word = [4, 8, 7, 1, 11, 2, 0, 0, 0];
+    /// assert_eq!(Code::new(0, 2, 9, 4)?.view(4, &word)?, [1, 11, 2]);
+    /// assert_eq!(Code::with_wiring(0, 2, 9, 4, 1)?.view(4, &word), Err(Refusal::ViewWired));
+    /// # Ok::<(), Refusal>(())
     /// ```
     pub fn view(self, slot: u32, word: &[u8]) -> Result<&[u8], Refusal> {
-        let Code { field, r, n, k } = self;
-        let first = value(unsafe { raw::latsefidy_view(field, r, n, k, slot, word.as_ptr(), word.len()) })?;
+        let Code { field, r, n, k, wiring } = self;
+        let first = value(unsafe { raw::latsefidy_view(field, r, n, k, wiring, slot, word.as_ptr(), word.len()) })?;
         Ok(&word[first as usize..][..r as usize + 1])
     }
 
@@ -96,9 +108,9 @@ impl Code {
     /// # Ok::<(), latsefidy::Refusal>(())
     /// ```
     pub fn local_pass(self, word: &mut [u8], marks: &mut [u8]) -> Result<u32, Refusal> {
-        let Code { field, r, n, k } = self;
+        let Code { field, r, n, k, wiring } = self;
         let (at, len) = (word.as_mut_ptr(), word.len());
-        value(unsafe { raw::latsefidy_local_pass(field, r, n, k, at, len, marks.as_mut_ptr(), marks.len()) })
+        value(unsafe { raw::latsefidy_local_pass(field, r, n, k, wiring, at, len, marks.as_mut_ptr(), marks.len()) })
     }
 
     /// Writes the message of the one codeword that agrees with every kept symbol: refusal 9 if none
@@ -122,13 +134,14 @@ impl Code {
     /// # Ok::<(), Refusal>(())
     /// ```
     pub fn decode(self, word: &[u8], marks: &[u8], message: &mut [u8], work: &mut [u8]) -> Result<(), Refusal> {
-        let Code { field, r, n, k } = self;
+        let Code { field, r, n, k, wiring } = self;
         accepted(unsafe {
             raw::latsefidy_decode(
                 field,
                 r,
                 n,
                 k,
+                wiring,
                 word.as_ptr(),
                 word.len(),
                 marks.as_ptr(),
@@ -153,8 +166,8 @@ impl Code {
     /// # Ok::<(), latsefidy::Refusal>(())
     /// ```
     pub fn grade(self, marks: &[u8]) -> Result<u32, Refusal> {
-        let Code { field, r, n, k } = self;
-        value(unsafe { raw::latsefidy_grade(field, r, n, k, marks.as_ptr(), marks.len()) })
+        let Code { field, r, n, k, wiring } = self;
+        value(unsafe { raw::latsefidy_grade(field, r, n, k, wiring, marks.as_ptr(), marks.len()) })
     }
 
     /// Decodes, as [`decode`](Code::decode) does, and answers the stripe's record. 9 and 10 are
@@ -173,7 +186,7 @@ impl Code {
     /// # Ok::<(), latsefidy::Refusal>(())
     /// ```
     pub fn record(self, word: &[u8], marks: &[u8], message: &mut [u8], work: &mut [u8]) -> Result<Record, Refusal> {
-        let Code { field, r, n, k } = self;
+        let Code { field, r, n, k, wiring } = self;
         let mut record = [0; raw::RECORD];
         accepted(unsafe {
             raw::latsefidy_record(
@@ -181,6 +194,7 @@ impl Code {
                 r,
                 n,
                 k,
+                wiring,
                 word.as_ptr(),
                 word.len(),
                 marks.as_ptr(),
@@ -207,13 +221,14 @@ impl Code {
     /// # Ok::<(), latsefidy::Refusal>(())
     /// ```
     pub fn write_sheet(self, word: &[u8], marks: &[u8], sheet: &mut [u8]) -> Result<(), Refusal> {
-        let Code { field, r, n, k } = self;
+        let Code { field, r, n, k, wiring } = self;
         accepted(unsafe {
             raw::latsefidy_write_sheet(
                 field,
                 r,
                 n,
                 k,
+                wiring,
                 word.as_ptr(),
                 word.len(),
                 marks.as_ptr(),

@@ -1,22 +1,25 @@
-//! A code: its four numbers, its groups and its guarantee.
+//! A code: its five numbers, its groups and its guarantee.
 
 use crate::raw;
 use crate::refusal::{accepted, Refusal};
 use crate::WEIGHTS;
+use std::iter::StepBy;
 use std::ops::Range;
 
 /// A code that the library accepts: field 0 has thirteen symbols, field 1 has bytes; groups of r + 1
-/// slots; n slots; k message symbols. Its calls are these methods.
+/// slots; n slots; k message symbols; and the wiring, which says what slots make a group. Its calls
+/// are these methods.
 #[derive(Clone, Copy, Debug, PartialEq, Eq, Hash)]
 pub struct Code {
     pub(crate) field: u32,
     pub(crate) r: u32,
     pub(crate) n: u32,
     pub(crate) k: u32,
+    pub(crate) wiring: u32,
 }
 
 impl Code {
-    /// The code of four numbers, if the library accepts them: questions 1 to 4.
+    /// The code of four numbers and wiring 0, if the library accepts them: questions 1 to 4.
     ///
     /// ```
     /// use latsefidy::{Code, Refusal};
@@ -29,11 +32,28 @@ impl Code {
     /// assert_eq!(Code::new(0, 2, 9, 7), Err(Refusal::K));
     /// ```
     pub fn new(field: u32, r: u32, n: u32, k: u32) -> Result<Code, Refusal> {
+        Code::with_wiring(field, r, n, k, 0)
+    }
+
+    /// The code of five numbers, if the library accepts them: questions 1 to 4 and then 17. Under
+    /// wiring 0 the slots of a group stand side by side. Under wiring 1, with G groups, slot p is in
+    /// group p mod G: any G slots side by side, as on a shelf, are of G groups.
+    ///
+    /// ```
+    /// use latsefidy::{Code, Refusal};
+    ///
+    /// let code = Code::with_wiring(0, 2, 9, 4, 1)?;
+    /// assert_eq!(code.mates(0)?.collect::<Vec<_>>(), [3, 6]);
+    /// assert_eq!(Code::with_wiring(0, 2, 9, 4, 0), Code::new(0, 2, 9, 4));
+    /// assert_eq!(Code::with_wiring(0, 2, 9, 4, 2), Err(Refusal::Wiring));
+    /// # Ok::<(), Refusal>(())
+    /// ```
+    pub fn with_wiring(field: u32, r: u32, n: u32, k: u32, wiring: u32) -> Result<Code, Refusal> {
         let mut weights = [0; WEIGHTS];
         // SAFETY: the pointer and the length are of one array. Of an accepted code slot 0 is no
         // refusal, so the answer is about the code alone.
-        accepted(unsafe { raw::latsefidy_weights(field, r, n, k, 0, weights.as_mut_ptr(), WEIGHTS) })?;
-        Ok(Code { field, r, n, k })
+        accepted(unsafe { raw::latsefidy_weights(field, r, n, k, wiring, 0, weights.as_mut_ptr(), WEIGHTS) })?;
+        Ok(Code { field, r, n, k, wiring })
     }
 
     /// The field: 0 is thirteen, 1 is bytes.
@@ -76,6 +96,16 @@ impl Code {
         self.k
     }
 
+    /// The wiring: 0, groups side by side, or 1, groups spread.
+    ///
+    /// ```
+    /// assert_eq!(latsefidy::Code::new(0, 2, 9, 4)?.wiring(), 0);
+    /// # Ok::<(), latsefidy::Refusal>(())
+    /// ```
+    pub fn wiring(self) -> u32 {
+        self.wiring
+    }
+
     /// The guarantee, n - k - ⌈k/r⌉ + 1: whichever slots are lost, and marked so, up to that many
     /// [`decode`](Code::decode) gives the message back.
     ///
@@ -100,17 +130,32 @@ impl Code {
         self.r + 1
     }
 
-    /// The slots of each group, from group 0 on.
+    /// The slots of each group, from group 0 on, in slot order.
     ///
     /// ```
-    /// let groups = latsefidy::Code::new(0, 2, 9, 4)?.groups();
-    /// assert_eq!(groups.len(), 3);
-    /// assert_eq!(groups.collect::<Vec<_>>(), [0..3, 3..6, 6..9]);
+    /// use latsefidy::Code;
+    ///
+    /// let groups = |code: Code| code.groups().map(Vec::from_iter).collect::<Vec<_>>();
+    /// assert_eq!(groups(Code::new(0, 2, 9, 4)?), [[0, 1, 2], [3, 4, 5], [6, 7, 8]]);
+    /// assert_eq!(groups(Code::with_wiring(0, 2, 9, 4, 1)?), [[0, 3, 6], [1, 4, 7], [2, 5, 8]]);
     /// # Ok::<(), latsefidy::Refusal>(())
     /// ```
-    pub fn groups(self) -> impl ExactSizeIterator<Item = Range<u32>> + DoubleEndedIterator + Clone {
-        let size = self.group_size();
-        (0..self.n / size).map(move |group| group * size..(group + 1) * size)
+    pub fn groups(self) -> impl ExactSizeIterator<Item = StepBy<Range<u32>>> + DoubleEndedIterator + Clone {
+        (0..self.group_count()).map(move |group| self.group(group))
+    }
+
+    fn group_count(self) -> u32 {
+        self.n / self.group_size()
+    }
+
+    /// The slots of a group that is there.
+    fn group(self, group: u32) -> StepBy<Range<u32>> {
+        if self.wiring == 0 {
+            let first = group * self.group_size();
+            (first..first + self.group_size()).step_by(1)
+        } else {
+            (group..self.n).step_by(self.group_count() as usize)
+        }
     }
 
     /// The group of a slot. A slot of n or more is refused, 7.
@@ -124,10 +169,12 @@ impl Code {
     /// # Ok::<(), Refusal>(())
     /// ```
     pub fn group_of(self, slot: u32) -> Result<u32, Refusal> {
-        if slot < self.n {
+        if slot >= self.n {
+            Err(Refusal::Slot)
+        } else if self.wiring == 0 {
             Ok(slot / self.group_size())
         } else {
-            Err(Refusal::Slot)
+            Ok(slot % self.group_count())
         }
     }
 
@@ -143,8 +190,7 @@ impl Code {
     /// # Ok::<(), Refusal>(())
     /// ```
     pub fn mates(self, slot: u32) -> Result<impl DoubleEndedIterator<Item = u32> + Clone, Refusal> {
-        let first = self.group_of(slot)? * self.group_size();
-        Ok((first..first + self.group_size()).filter(move |&mate| mate != slot))
+        Ok(self.group(self.group_of(slot)?).filter(move |&mate| mate != slot))
     }
 
     /// Bytes of work that [`decode`](Code::decode) and [`record`](Code::record) need: n * (k + 1).

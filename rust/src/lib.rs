@@ -2,6 +2,8 @@
 //!
 //! A [`Code`] spreads a message of k symbols over n drive slots. One lost slot is repaired from its
 //! small group; up to [`Code::guarantee`] lost slots, whichever they are, the message is decoded.
+//! [`Code::with_wiring`] spreads the groups over the slots, so that a lost shelf of drives takes no
+//! group as a whole.
 //!
 //! The promise is about lost drives that are marked. Wrong bytes on a drive that claims to be sound
 //! are not covered: an unmarked wrong symbol can decode to another message. Keep a checksum beside

@@ -36,9 +36,9 @@ pub struct Record {
 const NO_GROUP: u32 = 255;
 
 impl Record {
-    /// From the nine numbers of an accepted call, whose code is accepted too.
+    /// From the ten numbers of an accepted call, whose code is accepted too.
     pub(crate) fn from_numbers(numbers: [u32; raw::RECORD]) -> Record {
-        let [field, r, n, k, lost, sure, grade, first, outcome] = numbers;
+        let [field, r, n, k, wiring, lost, sure, grade, first, outcome] = numbers;
         let first = (first != NO_GROUP).then_some(first);
         let outcome = match outcome {
             0 => Outcome::Decided,
@@ -46,6 +46,6 @@ impl Record {
             10 => Outcome::Undecided,
             other => unreachable!("outcome {other}"),
         };
-        Record { code: Code { field, r, n, k }, lost, sure, grade, first, outcome }
+        Record { code: Code { field, r, n, k, wiring }, lost, sure, grade, first, outcome }
     }
 }

@@ -82,6 +82,8 @@ refusals! {
     SheetCount 13 "the sheet has not n + 2 words"
     SheetSlot 14 "a middle word of the sheet is wrong"
     SheetEnd 15 "the last word of the sheet is wrong"
+    Wiring 17 "the wiring is above 1, or 1 with n no multiple of r + 1"
+    ViewWired 18 "a group view wants wiring 0"
 }
 
 impl fmt::Display for Refusal {

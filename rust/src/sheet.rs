@@ -16,6 +16,8 @@ use crate::Code;
 /// let code = read_sheet(&sheet, &mut word, &mut marks)?;
 /// assert_eq!(code, Code::new(0, 2, 3, 1)?);
 /// assert_eq!((&word[..3], &marks[..3]), (&[5, 0, 5][..], &[0, 1, 0][..]));
+/// let wired = [&[0x18], &sheet[1..]].concat();
+/// assert_eq!(read_sheet(&wired, &mut word, &mut marks)?, Code::with_wiring(0, 2, 3, 1, 1)?);
 /// assert_eq!(read_sheet(&[], &mut word, &mut marks), Err(Refusal::SheetStart));
 /// # Ok::<(), Refusal>(())
 /// ```
@@ -34,8 +36,8 @@ pub fn read_sheet(sheet: &[u8], word: &mut [u8], marks: &mut [u8]) -> Result<Cod
             code.len(),
         )
     })?;
-    let [field, r, n, k] = code;
-    Ok(Code { field, r, n, k })
+    let [field, r, n, k, wiring] = code;
+    Ok(Code { field, r, n, k, wiring })
 }
 
 /// Writes the report of a sheet at the front of text, of at least
