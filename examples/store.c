@@ -6,7 +6,8 @@
  *     cc -std=c11 -O2 -Iinclude examples/store.c target/staticlib/liblatsefidy.a -o store
  *
  * Here a drive is a file, drive-P in a folder. Byte s of drive-P is symbol P of codeword s, which encodes bytes s * K to
- * s * K + K - 1 of the file, with zeros after its end. stripe.txt has the code and the file's length.
+ * s * K + K - 1 of the file, with zeros after its end. stripe.txt has the code and the file's length. Under wiring 0 the
+ * drives of a group stand side by side; wiring 1 spreads them, so that a shelf of drives can fail and each is rebuilt.
  * The Rust example of the same name has the same commands and files.
  */
 #define _POSIX_C_SOURCE 200809L
@@ -27,21 +28,23 @@
 #include <unistd.h>
 
 enum { DONE = 0, REFUSED = 1, FAILED = 2 }; /* exit status */
-enum { BYTES = 1, DRIVES_MOST = 255, TEXT_MOST = 128, NAME_MOST = 24 };
+enum { BYTES = 1, DRIVES_MOST = 255, GROUP_MOST = 17, TEXT_MOST = 128, NAME_MOST = 24 };
 #define LENGTH_MOST (UINT64_C(1) << 48) /* most bytes of a file: n * length stays far below 2^64 */
 #define TEXT_NAME "stripe.txt"
 
 static const char usage[] =
-    "usage: store store FILE FOLDER [R N K]   spreads FILE over N drives, files in FOLDER; default R 4 N 20 K 12\n"
-    "       store lose FOLDER SLOT...         deletes the drives of these slots\n"
-    "       store load FOLDER FILE            writes the file back to FILE, from the drives that are left\n"
+    "usage: store store FILE FOLDER [R N K [WIRING]]   spreads FILE over N drives, files in FOLDER;\n"
+    "                                                  default R 4 N 20 K 12 WIRING 0\n"
+    "       store lose FOLDER SLOT...                  deletes the drives of these slots\n"
+    "       store load FOLDER FILE                     writes the file back to FILE, from the drives that are left\n"
+    "WIRING 0 has the drives of a group side by side; WIRING 1 spreads them, for drives on shelves.\n"
     "FOLDER must be new or empty to store; load makes FILE anew. Nothing is ever overwritten.\n"
     "A wrong byte on a drive that is there is found only if no codeword fits it (refusal 9); else FILE may be wrong.\n"
     "Exit status: 0 done, 1 refused, 2 reading or writing failed, or usage.\n";
 
 /* A code over bytes and the length of a file that is stored by it. */
 struct layout {
-    uint32_t r, n, k;
+    uint32_t r, n, k, wiring;
     uint64_t length;
     size_t stripes;
 };
@@ -190,12 +193,20 @@ static void drive_name(uint32_t slot, char name[NAME_MOST]) { snprintf(name, NAM
 
 static uint32_t guarantee(const struct layout *l) { return l->n - l->k - (l->k + l->r - 1) / l->r + 1; }
 
+static uint32_t groups(const struct layout *l) { return l->n / (l->r + 1); }
+
+/* The slot of a member of a group; members in order are slots in order. */
+static uint32_t slot_of(const struct layout *l, uint32_t group, uint32_t member) {
+    return l->wiring ? group + member * groups(l) : group * (l->r + 1) + member;
+}
+
 static size_t stripes_of(uint64_t length, uint32_t k) { return (size_t)((length + k - 1) / k); }
 
 /* The refusal of a code; grade asks of the code before it looks at the marks. */
-static uint32_t code_refusal(uint32_t r, uint32_t n, uint32_t k) {
+static uint32_t code_refusal(const struct layout *l) {
     static const uint8_t marks[DRIVES_MOST];
-    return latsefidy_refusal(latsefidy_grade(BYTES, r, n, k, marks, n < DRIVES_MOST ? n : DRIVES_MOST));
+    size_t length = l->n < DRIVES_MOST ? l->n : DRIVES_MOST;
+    return latsefidy_refusal(latsefidy_grade(BYTES, l->r, l->n, l->k, l->wiring, marks, length));
 }
 
 /* Decimal digits alone, up to `most`: moves over them and answers 0, else -1. */
@@ -217,38 +228,43 @@ static int whole_number(const char *text, uint64_t most, uint32_t *value) {
     return 0;
 }
 
-static int code_of(char **words, struct layout *l) {
-    uint32_t *numbers[] = {&l->r, &l->n, &l->k};
-    for (int i = 0; i < 3; i++)
+/* R, N, K and WIRING, as many as there are. */
+static int code_of(int count, char **words, struct layout *l) {
+    static const char *const names[] = {"R", "N", "K", "WIRING"};
+    uint32_t *numbers[] = {&l->r, &l->n, &l->k, &l->wiring};
+    for (int i = 0; i < count; i++)
         if (whole_number(words[i], UINT32_MAX, numbers[i]) != 0)
-            return refuse("%c is \"%s\", not a decimal number up to 4,294,967,295", "RNK"[i], words[i]);
-    uint32_t refused = code_refusal(l->r, l->n, l->k);
+            return refuse("%s is \"%s\", not a decimal number up to 4,294,967,295", names[i], words[i]);
+    uint32_t refused = code_refusal(l);
     if (refused == 0) return DONE;
-    return refuse("the code R %s N %s K %s is refused, %" PRIu32 ": %s", words[0], words[1], words[2], refused,
-                  latsefidy_refusal_text(refused));
+    return refuse("the code R %" PRIu32 " N %" PRIu32 " K %" PRIu32 " WIRING %" PRIu32 " is refused, %" PRIu32 ": %s", l->r,
+                  l->n, l->k, l->wiring, refused, latsefidy_refusal_text(refused));
 }
 
 /* ---- stripe.txt ---- */
 
+/* The line of the code is field, r, n, k, and under wiring 1 alone the wiring after them. */
 static int text_of(const struct layout *l, char text[TEXT_MOST]) {
-    return snprintf(text, TEXT_MOST, "latsefidy store 1\ncode 1 %" PRIu32 " %" PRIu32 " %" PRIu32 "\nbytes %" PRIu64 "\n",
-                    l->r, l->n, l->k, l->length);
+    return snprintf(text, TEXT_MOST, "latsefidy store 1\ncode 1 %" PRIu32 " %" PRIu32 " %" PRIu32 "%s\nbytes %" PRIu64 "\n",
+                    l->r, l->n, l->k, l->wiring ? " 1" : "", l->length);
 }
 
 /* Understands a text if it is just the one that store would write. */
 static int understand(const char *text, struct layout *l) {
-    uint64_t r, n, k;
+    uint64_t r, n, k, wiring = 0;
     char again[TEXT_MOST];
     const char *at = strchr(text, '\n');
     if (at == NULL || strncmp(at, "\ncode 1 ", 8) != 0) return -1;
     at += 8;
     if (number(&at, DRIVES_MOST, &r) != 0 || *at++ != ' ') return -1;
     if (number(&at, DRIVES_MOST, &n) != 0 || *at++ != ' ') return -1;
-    if (number(&at, DRIVES_MOST, &k) != 0 || strncmp(at, "\nbytes ", 7) != 0) return -1;
+    if (number(&at, DRIVES_MOST, &k) != 0) return -1;
+    if (*at == ' ' && (++at, number(&at, 1, &wiring)) != 0) return -1;
+    if (strncmp(at, "\nbytes ", 7) != 0) return -1;
     at += 7;
     if (number(&at, LENGTH_MOST, &l->length) != 0) return -1;
-    l->r = (uint32_t)r, l->n = (uint32_t)n, l->k = (uint32_t)k;
-    if (code_refusal(l->r, l->n, l->k) != 0) return -1;
+    l->r = (uint32_t)r, l->n = (uint32_t)n, l->k = (uint32_t)k, l->wiring = (uint32_t)wiring;
+    if (code_refusal(l) != 0) return -1;
     l->stripes = stripes_of(l->length, l->k);
     text_of(l, again);
     return strcmp(text, again) == 0 ? 0 : -1;
@@ -350,7 +366,7 @@ static int encode_all(const struct layout *l, const uint8_t *file, uint8_t *driv
         size_t from = s * l->k, kept = l->length - from < l->k ? (size_t)(l->length - from) : l->k;
         memset(message, 0, sizeof message);
         memcpy(message, file + from, kept);
-        uint32_t refused = latsefidy_encode(BYTES, l->r, l->n, l->k, message, l->k, word, l->n);
+        uint32_t refused = latsefidy_encode(BYTES, l->r, l->n, l->k, l->wiring, message, l->k, word, l->n);
         if (refused != 0)
             return refuse("stripe %zu is refused, %" PRIu32 ": %s", s, refused, latsefidy_refusal_text(refused));
         for (uint32_t p = 0; p < l->n; p++) drives[p * l->stripes + s] = word[p];
@@ -387,7 +403,7 @@ static int command_store(int count, char **words) {
     struct layout l = {.r = 4, .n = 20, .k = 12};
     struct bytes bytes = {NULL, 0};
     double start = seconds();
-    int status = count == 5 ? code_of(words + 2, &l) : DONE;
+    int status = code_of(count - 2, words + 2, &l);
     if (status == DONE) status = read_file(words[0], &bytes);
     if (status == DONE) status = store_bytes(&bytes, words[1], &l, start);
     free(bytes.at);
@@ -478,17 +494,15 @@ static int read_drives(int folder, const struct layout *l, struct drives *drives
 }
 
 /* Rebuilds the drive of a slot from its mates, strip by strip. */
-static int rebuild(const struct layout *l, uint32_t slot, struct drives *drives) {
+static int rebuild(const struct layout *l, uint32_t slot, const uint32_t *mates, struct drives *drives) {
     static uint8_t strips[16 * LATSEFIDY_STRIP_MOST];
-    uint32_t first = slot - slot % (l->r + 1);
     uint8_t *out = malloc(l->stripes + 1);
     if (out == NULL) return fail("keep in memory", "a drive");
     for (size_t from = 0, length; from < l->stripes; from += length) {
         length = l->stripes - from < LATSEFIDY_STRIP_MOST ? l->stripes - from : LATSEFIDY_STRIP_MOST;
-        uint8_t *to = strips;
-        for (uint32_t p = first; p <= first + l->r; p++)
-            if (p != slot) memcpy(to, drives->at[p] + from, length), to += length;
-        uint32_t refused = latsefidy_rebuild(BYTES, l->r, l->n, l->k, slot, strips, l->r * length, out + from, length);
+        for (uint32_t i = 0; i < l->r; i++) memcpy(strips + i * length, drives->at[mates[i]] + from, length);
+        uint32_t refused = latsefidy_rebuild(BYTES, l->r, l->n, l->k, l->wiring, slot, strips, l->r * length, out + from,
+                                             length);
         if (refused != 0) {
             free(out);
             return refuse("drive %" PRIu32 " is refused, %" PRIu32 ": %s", slot, refused, latsefidy_refusal_text(refused));
@@ -496,19 +510,21 @@ static int rebuild(const struct layout *l, uint32_t slot, struct drives *drives)
     }
     drives->at[slot] = out;
     printf("load: drive %" PRIu32 " rebuilt from drives", slot);
-    for (uint32_t p = first; p <= first + l->r; p++)
-        if (p != slot) printf(" %" PRIu32, p);
+    for (uint32_t i = 0; i < l->r; i++) printf(" %" PRIu32, mates[i]);
     printf("\n");
     return DONE;
 }
 
 /* Rebuilds the lost drive of each group with exactly one. */
 static int rebuild_groups(const struct layout *l, struct drives *drives) {
-    for (uint32_t first = 0; first < l->n; first += l->r + 1) {
-        uint32_t lost = 0, slot = 0;
-        for (uint32_t p = first; p <= first + l->r; p++)
+    for (uint32_t group = 0; group < groups(l); group++) {
+        uint32_t lost = 0, slot = 0, kept = 0, mates[GROUP_MOST];
+        for (uint32_t i = 0; i <= l->r; i++) {
+            uint32_t p = slot_of(l, group, i);
             if (drives->at[p] == NULL) lost++, slot = p;
-        int status = lost == 1 ? rebuild(l, slot, drives) : DONE;
+            else mates[kept++] = p;
+        }
+        int status = lost == 1 ? rebuild(l, slot, mates, drives) : DONE;
         if (status != DONE) return status;
     }
     return DONE;
@@ -522,7 +538,8 @@ static int decode_stripe(const struct layout *l, const struct drives *drives, si
         marks[p] = drives->at[p] == NULL;
         word[p] = marks[p] ? 0 : drives->at[p][s];
     }
-    uint32_t refused = latsefidy_decode(BYTES, l->r, l->n, l->k, word, l->n, marks, l->n, message, l->k, work, sizeof work);
+    uint32_t refused = latsefidy_decode(BYTES, l->r, l->n, l->k, l->wiring, word, l->n, marks, l->n, message, l->k, work,
+                                        sizeof work);
     if (refused == 0) return DONE;
     return refuse("stripe %zu is refused, %" PRIu32 ": %s", s, refused, latsefidy_refusal_text(refused));
 }
@@ -583,7 +600,7 @@ static int is(const char *word, const char *name) { return strcmp(word, name) ==
 static int run(int count, char **words) {
     for (int i = 1; i < count; i++)
         if (is(words[i], "--help") || is(words[i], "-h")) return fputs(usage, stdout), DONE;
-    if ((count == 4 || count == 7) && is(words[1], "store")) return command_store(count - 2, words + 2);
+    if ((count == 4 || count == 7 || count == 8) && is(words[1], "store")) return command_store(count - 2, words + 2);
     if (count >= 4 && is(words[1], "lose")) return command_lose(count - 2, words + 2);
     if (count == 4 && is(words[1], "load")) return command_load(words + 2);
     fputs(usage, stderr);

@@ -7,7 +7,7 @@ use std::path::PathBuf;
 
 pub const USAGE: &str = "\
 usage:
-    store store FILE FOLDER [R N K]      field 1; default R 4 N 20 K 12
+    store store FILE FOLDER [R N K [WIRING]]      field 1; default R 4 N 20 K 12 WIRING 0
     store lose FOLDER SLOT...
     store load FOLDER FILE
 
@@ -15,6 +15,7 @@ store  spreads FILE over N drives, files in FOLDER, which must be new or empty
 lose   deletes drives
 load   gets the file back from the drives that are there; FILE must be new
 
+WIRING 0 has the drives of a group side by side; WIRING 1 spreads them, for drives on shelves.
 A wrong byte on a drive that claims to be sound is not found unless decode happens to refuse it (9).
 A run that fails removes what it made. One that is interrupted does not: it leaves drives without a
 stripe.txt, which are no store, or a FILE that may be short.
@@ -23,7 +24,7 @@ Exit status: 0 done; 1 refused; 2 reading or writing failed, or usage.
 ";
 
 const BYTES: u32 = 1;
-const DEFAULT: [u32; 3] = [4, 20, 12];
+const DEFAULT: [u32; 4] = [4, 20, 12, 0];
 
 pub enum Command {
     Help,
@@ -44,7 +45,7 @@ pub fn command(arguments: &[OsString]) -> Result<Command, Trouble> {
     }
     let (name, rest) = arguments.split_first().ok_or(Trouble::Usage(USAGE.into()))?;
     match (name.to_str(), rest) {
-        (Some("store"), [file, folder, numbers @ ..]) if matches!(numbers.len(), 0 | 3) => {
+        (Some("store"), [file, folder, numbers @ ..]) if matches!(numbers.len(), 0 | 3 | 4) => {
             Ok(Command::Store { file: file.into(), folder: folder.into(), code: code(numbers)? })
         }
         (Some("lose"), [folder, slots @ ..]) if !slots.is_empty() => {
@@ -61,13 +62,14 @@ pub fn decimal(text: &OsStr) -> Option<u32> {
     text.bytes().all(|b| b.is_ascii_digit()).then(|| text.parse().ok())?
 }
 
-/// The code over bytes of R, N and K, or of none.
+/// The code over bytes of R, N, K and WIRING, of the first three, or of none.
 fn code(numbers: &[OsString]) -> Result<Code, Trouble> {
     let mut values = DEFAULT;
-    for ((value, name), text) in values.iter_mut().zip(["R", "N", "K"]).zip(numbers) {
+    for ((value, name), text) in values.iter_mut().zip(["R", "N", "K", "WIRING"]).zip(numbers) {
         let refused = || Trouble::Refused(format!("{name} is {text:?}, which is no decimal number below 2^32"));
         *value = decimal(text).ok_or_else(refused)?;
     }
-    let [r, n, k] = values;
-    Code::new(BYTES, r, n, k).map_err(|refusal| Trouble::Refused(format!("code {BYTES} {r} {n} {k}: {refusal}")))
+    let [r, n, k, wiring] = values;
+    let refused = |refusal| Trouble::Refused(format!("code {BYTES} {r} {n} {k} {wiring}: {refusal}"));
+    Code::with_wiring(BYTES, r, n, k, wiring).map_err(refused)
 }

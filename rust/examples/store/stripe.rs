@@ -25,19 +25,22 @@ impl Stripe {
         self.bytes.div_ceil(self.code.k() as usize)
     }
 
+    /// The line of the code is field, r, n, k, and under wiring 1 alone the wiring after them.
     pub fn text(&self) -> String {
         let (code, bytes) = (self.code, self.bytes);
         let numbers = format!("{} {} {} {}", code.field(), code.r(), code.n(), code.k());
-        format!("latsefidy store 1\ncode {numbers}\nbytes {bytes}\n")
+        let wired = if code.wiring() == 1 { " 1" } else { "" };
+        format!("latsefidy store 1\ncode {numbers}{wired}\nbytes {bytes}\n")
     }
 
     /// The stripe of a text that `text` writes, and of no other.
     fn parse(text: &str) -> Option<Stripe> {
         let [_, code, bytes] = text.lines().collect::<Vec<_>>().try_into().ok()?;
         let numbers: Vec<u32> = code.strip_prefix("code 1 ")?.split(' ').map_while(|t| t.parse().ok()).collect();
-        let [r, n, k] = numbers.try_into().ok()?;
+        let (&[r, n, k], rest) = numbers.split_first_chunk()?;
+        let wiring = rest.first().copied().unwrap_or(0);
         let bytes = bytes.strip_prefix("bytes ")?.parse().ok()?;
-        let stripe = Stripe { code: Code::new(1, r, n, k).ok()?, bytes };
+        let stripe = Stripe { code: Code::with_wiring(1, r, n, k, wiring).ok()?, bytes };
         (stripe.text() == text).then_some(stripe)
     }
 
