@@ -7,8 +7,8 @@ fn nonzero(field: u32) -> u32 {
     [12, 255][field as usize]
 }
 
-/// Questions 1 to 4, from the specification.
-fn refusal(field: u32, r: u32, n: u32, k: u32) -> Option<Refusal> {
+/// Questions 1 to 4 and 17, from the specification.
+fn refusal(field: u32, r: u32, n: u32, k: u32, wiring: u32) -> Option<Refusal> {
     if field > 1 {
         Some(Refusal::Field)
     } else if ![&[1, 2, 3, 5, 11][..], &[2, 4, 14, 16]][field as usize].contains(&r) {
@@ -17,15 +17,22 @@ fn refusal(field: u32, r: u32, n: u32, k: u32) -> Option<Refusal> {
         Some(Refusal::N)
     } else if !(1..=n / (r + 1) * r).contains(&k) {
         Some(Refusal::K)
+    } else if wiring > 1 {
+        Some(Refusal::Wiring)
     } else {
         None
     }
 }
 
-/// Every code of a field.
+/// Every code of a field with wiring 0.
 fn codes(field: u32) -> impl Iterator<Item = Code> {
     let numbers = (1..=16).flat_map(move |r| (1..=nonzero(field)).map(move |n| (r, n)));
     numbers.flat_map(move |(r, n)| (1..=n).filter_map(move |k| Code::new(field, r, n, k).ok()))
+}
+
+/// The same code with wiring 1.
+fn wired(code: Code) -> Code {
+    Code::with_wiring(code.field(), code.r(), code.n(), code.k(), 1).unwrap()
 }
 
 #[test]
@@ -34,7 +41,11 @@ fn new_asks_what_the_specification_asks() {
         for r in 0..=18 {
             for n in (0..=40).chain(250..=260) {
                 for k in (0..=40).chain(235..=245) {
-                    assert_eq!(Code::new(field, r, n, k).err(), refusal(field, r, n, k), "{field} {r} {n} {k}");
+                    assert_eq!(Code::new(field, r, n, k).err(), refusal(field, r, n, k, 0), "{field} {r} {n} {k}");
+                    for w in 0..=2 {
+                        let found = Code::with_wiring(field, r, n, k, w).err();
+                        assert_eq!(found, refusal(field, r, n, k, w), "{field} {r} {n} {k} {w}");
+                    }
                 }
             }
         }
@@ -44,6 +55,7 @@ fn new_asks_what_the_specification_asks() {
     assert_eq!(Code::new(0, most, 9, 4), Err(Refusal::R));
     assert_eq!(Code::new(0, 2, most, 4), Err(Refusal::N));
     assert_eq!(Code::new(0, 2, 9, most), Err(Refusal::K));
+    assert_eq!(Code::with_wiring(0, 2, 9, 4, most), Err(Refusal::Wiring));
 }
 
 #[test]
@@ -55,12 +67,14 @@ fn there_are_as_many_codes_as_the_rules_allow() {
 #[test]
 fn getters_give_the_numbers_back() {
     let code = Code::new(1, 4, 20, 12).unwrap();
-    assert_eq!((code.field(), code.r(), code.n(), code.k()), (1, 4, 20, 12));
+    assert_eq!((code.field(), code.r(), code.n(), code.k(), code.wiring()), (1, 4, 20, 12, 0));
+    assert_eq!(wired(code).wiring(), 1);
+    assert_ne!(wired(code), code);
 }
 
 #[test]
 fn guarantee_agrees_with_the_record() {
-    for code in codes(0).chain(codes(1)) {
+    for code in codes(0).chain(codes(1)).chain(codes(0).map(wired)) {
         let (zeros, mut message) = (vec![0; code.n() as usize], vec![0; code.k() as usize]);
         let record = code.record(&zeros, &zeros, &mut message, &mut vec![0; code.work_len()]).unwrap();
         assert_eq!((record.code, record.sure), (code, code.guarantee()));
@@ -99,9 +113,46 @@ fn groups_and_mates_agree_with_the_view() {
     }
 }
 
+/// Member i of group g, by the first k unit messages: its symbols are the same under both wirings.
+#[test]
+fn wired_members_have_the_symbols_of_their_places() {
+    let large = [Code::new(1, 4, 60, 40).unwrap(), Code::new(1, 16, 255, 240).unwrap()];
+    for code in codes(0).chain(large) {
+        let wired = wired(code);
+        let (mut plain, mut spread) = (vec![0; code.n() as usize], vec![0; code.n() as usize]);
+        for m in [0, code.k() / 2, code.k() - 1] {
+            let mut message = vec![0; code.k() as usize];
+            message[m as usize] = 1;
+            code.encode(&message, &mut plain).unwrap();
+            wired.encode(&message, &mut spread).unwrap();
+            for (slots, others) in code.groups().zip(wired.groups()) {
+                assert!(slots.zip(others).all(|(p, w)| plain[p as usize] == spread[w as usize]), "{wired:?}");
+            }
+        }
+    }
+}
+
+#[test]
+fn wired_groups_are_spread() {
+    for code in codes(0).chain(codes(1).filter(|c| c.k() == 1)).map(wired) {
+        let count = code.n() / code.group_size();
+        assert_eq!(code.groups().len(), count as usize);
+        for (number, group) in (0..).zip(code.groups()) {
+            let group: Vec<u32> = group.collect();
+            assert_eq!(group, (0..code.group_size()).map(|member| number + member * count).collect::<Vec<_>>());
+            for &slot in &group {
+                assert_eq!(code.group_of(slot), Ok(number));
+                let mates: Vec<u32> = group.iter().copied().filter(|&p| p != slot).collect();
+                assert_eq!(code.mates(slot).unwrap().collect::<Vec<_>>(), mates);
+                assert_eq!(code.view(slot, &[]), Err(Refusal::ViewWired));
+            }
+        }
+    }
+}
+
 #[test]
 fn slots_of_n_or_more_are_refused() {
-    for code in codes(0) {
+    for code in codes(0).chain(codes(0).map(wired)) {
         for slot in [code.n(), code.n() + 1, u32::MAX] {
             assert_eq!(code.weights(slot), Err(Refusal::Slot));
             assert_eq!(code.group_of(slot), Err(Refusal::Slot));

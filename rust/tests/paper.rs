@@ -13,6 +13,14 @@ fn classroom() -> Code {
     code(0, 2, 9, 4)
 }
 
+/// The same code with its groups spread: points 1 2 4 3 6 12 9 5 10.
+fn wired() -> Code {
+    Code::with_wiring(0, 2, 9, 4, 1).unwrap()
+}
+
+/// Its codeword of 1 1 1 1.
+const WIRED: [u8; 9] = [4, 1, 0, 8, 11, 0, 7, 2, 0];
+
 fn encoded(code: Code, message: &[u8]) -> Result<Vec<u8>, Refusal> {
     let mut codeword = vec![0; code.n() as usize];
     code.encode(message, &mut codeword).map(|()| codeword)
@@ -92,6 +100,79 @@ fn works_by_groups() {
     let mut strip = [0; 2];
     classroom().rebuild(0, &[8, 9, 7, 6], &mut strip).unwrap();
     assert_eq!(strip, [4, 10]);
+}
+
+#[test]
+fn encodes_and_repairs_wired() {
+    assert_eq!(encoded(wired(), &[1, 1, 1, 1]).unwrap(), WIRED);
+    assert_eq!(encoded(wired(), &[1, 2, 3, 4]).unwrap(), [10, 2, 3, 9, 8, 0, 6, 0, 4]);
+    let bytes = Code::with_wiring(1, 2, 9, 5, 1).unwrap();
+    assert_eq!(encoded(bytes, &[1, 2, 3, 4, 255]).unwrap(), [251, 108, 97, 51, 244, 1, 53, 176, 125]);
+    // Message 1 is the polynomial X: the points. Exponents are 0 1 3 4.
+    assert_eq!(encoded(wired(), &[0, 1, 0, 0]).unwrap(), [1, 2, 4, 3, 6, 12, 9, 5, 10]);
+    assert_eq!(wired().repair(0, &[8, 7]), Ok(4)); // slots 3 and 6
+    assert_eq!(wired().repair(4, &[1, 2]), Ok(11)); // slots 1 and 7
+    for slot in 0..9 {
+        let mates: Vec<u8> = wired().mates(slot).unwrap().map(|p| WIRED[p as usize]).collect();
+        assert_eq!(wired().repair(slot, &mates), Ok(WIRED[slot as usize]));
+        let (weights, mut strip) = (wired().weights(slot).unwrap(), [0]);
+        let sum: u32 = weights.iter().zip(&mates).map(|(&w, &m)| u32::from(w) * u32::from(m)).sum();
+        wired().rebuild(slot, &mates, &mut strip).unwrap();
+        assert_eq!((sum % 13, strip), (u32::from(WIRED[slot as usize]), [WIRED[slot as usize]]));
+    }
+}
+
+#[test]
+fn decodes_and_grades_wired() {
+    // A shelf, slots 3 to 5, has one of each group: the local pass repairs all of it.
+    let (mut word, mut marks) = (WIRED, marked(&[3, 4, 5]));
+    word[3..6].fill(99);
+    assert_eq!(wired().grade(&marks), Ok(1));
+    assert_eq!(wired().local_pass(&mut word, &mut marks), Ok(3));
+    assert_eq!((word, marks), (WIRED, [0; 9]));
+    // Group 1 is slots 1, 4 and 7: two of it are lost and stay so, slot 0 is mended.
+    let (mut word, mut marks) = ([99, 1, 0, 8, 99, 0, 7, 99, 0], marked(&[0, 4, 7]));
+    assert_eq!(wired().local_pass(&mut word, &mut marks), Ok(1));
+    assert_eq!((word, marks), ([4, 1, 0, 8, 99, 0, 7, 99, 0], marked(&[4, 7])));
+    let (mut message, mut work) = ([0; 4], vec![0; wired().work_len()]);
+    let record = wired().record(&word, &marked(&[0, 3, 4, 7]), &mut message, &mut work).unwrap();
+    assert_eq!((record.code, record.lost, record.sure, record.grade, record.first), (wired(), 4, 4, 2, Some(0)));
+    assert_eq!((record.outcome, message), (Outcome::Decided, [1; 4]));
+    let answer = wired().decode(&WIRED, &marked(&[1, 4, 7, 2, 5]), &mut message, &mut work);
+    assert_eq!((answer, wired().grade(&marked(&[1, 4, 7, 2, 5]))), (Err(Refusal::Undecided), Ok(3)));
+    let all = wired().decode(&WIRED, &[1; 9], &mut message, &mut work);
+    assert_eq!(all, Err(Refusal::Undecided));
+    // The codeword of wiring 0 is foreign to wiring 1.
+    assert_eq!(wired().decode(&WORD, &[0; 9], &mut message, &mut work), Err(Refusal::Foreign));
+}
+
+#[test]
+fn refuses_wirings() {
+    let refusal = |field, r, n, k, wiring| Code::with_wiring(field, r, n, k, wiring).err().map(Refusal::number);
+    assert_eq!((refusal(0, 2, 9, 4, 1), refusal(0, 2, 9, 4, 2)), (None, Some(17)));
+    assert_eq!((refusal(0, 2, 9, 7, 2), refusal(0, 2, 10, 4, 1)), (Some(4), Some(3)));
+    assert_eq!(wired().view(4, &WIRED), Err(Refusal::ViewWired));
+    assert_eq!(wired().view(9, &[]), Err(Refusal::ViewWired));
+}
+
+#[test]
+fn reads_and_writes_wired_sheets() {
+    let (mut sheet, mut text) = ([0; 44], [0; 1032]);
+    wired().write_sheet(&WIRED, &marked(&[0, 3]), &mut sheet).unwrap();
+    assert_eq!(sheet[..16], [0x18, 2, 9, 4, 0x30, 0, 0, 0, 0x20, 0, 1, 1, 0x20, 0, 2, 0]);
+    let (mut word, mut marks) = ([9; 255], [9; 255]);
+    assert_eq!(read_sheet(&sheet, &mut word, &mut marks), Ok(wired()));
+    assert_eq!(
+        (&word[..10], &marks[..10]),
+        (&[0, 1, 0, 0, 11, 0, 7, 2, 0, 9][..], &[1, 0, 0, 1, 0, 0, 0, 0, 0, 9][..])
+    );
+    let length = report(&sheet, &mut text).unwrap();
+    assert_eq!(&text[..length], b"code 0 2 9 4 1\nlost 2 sure 4 grade 2 first 0\nmessage 1 1 1 1\n");
+    // Fields 2 to 7 are no fields, wired or not.
+    for first in (0x12..=0x17).chain(0x1a..=0x1f) {
+        sheet[0] = first;
+        assert_eq!(read_sheet(&sheet, &mut word, &mut marks), Err(Refusal::Field));
+    }
 }
 
 #[test]

@@ -2,7 +2,7 @@
 
 use latsefidy::Refusal;
 
-const NAMED: [Refusal; 15] = [
+const NAMED: [Refusal; 17] = [
     Refusal::Field,
     Refusal::R,
     Refusal::N,
@@ -18,11 +18,13 @@ const NAMED: [Refusal; 15] = [
     Refusal::SheetCount,
     Refusal::SheetSlot,
     Refusal::SheetEnd,
+    Refusal::Wiring,
+    Refusal::ViewWired,
 ];
 
 #[test]
 fn numbers_have_their_names() {
-    for (number, refusal) in (1..).zip(NAMED) {
+    for (number, refusal) in (1..=15).chain([17, 18]).zip(NAMED) {
         assert_eq!((refusal.number(), Refusal::from_number(number)), (number, Some(refusal)));
     }
 }

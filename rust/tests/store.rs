@@ -115,6 +115,26 @@ fn writes_the_format() {
 }
 
 #[test]
+fn spreads_the_groups() {
+    let place = stored(998, "2 9 4 1");
+    assert_eq!(place.bytes("d/stripe.txt"), b"latsefidy store 1\ncode 1 2 9 4 1\nbytes 998\n");
+    place.run(0, "store f e 2 9 4");
+    // Drive g + 3 * i is member i of group g, which is drive 3 * g + i under wiring 0.
+    for (wired, drive) in [0, 3, 6, 1, 4, 7, 2, 5, 8].into_iter().enumerate() {
+        assert_eq!(place.bytes(&format!("d/drive-{wired}")), place.bytes(&format!("e/drive-{drive}")));
+    }
+    let said = place.run(0, "lose d 3 4 5");
+    assert!(said.ends_with("lose: 3 of 9 drives gone: each is rebuilt from 2 others\n"), "{said}");
+    let said = place.run(0, "load d g");
+    let rebuilt = [3, 4, 5].map(|p| format!("load: drive {p} rebuilt from drives {} {}\n", p - 3, p + 3));
+    assert!(said.starts_with(&rebuilt.concat()), "{said}");
+    assert_eq!(place.bytes("g"), noise(998));
+    place.run(0, "lose d 0");
+    place.run(0, "load d h");
+    assert_eq!(place.bytes("h"), noise(998));
+}
+
+#[test]
 fn says_what_it_did() {
     let place = Place::new();
     place.file("f", &noise(12_345));
@@ -212,7 +232,9 @@ fn store_leaves_what_is_there() {
     place.refused(2, "store nothing d", "store: cannot read nothing");
     place.refused(2, "store nothing new", "store: cannot read nothing");
     place.refused(2, "store f no/where", "store: cannot write no/where");
-    place.refused(1, "store f new 4 20 17", "code 1 4 20 17: refused 4: k is not from 1 to r * n / (r + 1)");
+    place.refused(1, "store f new 4 20 17", "code 1 4 20 17 0: refused 4: k is not from 1 to r * n / (r + 1)");
+    place.refused(1, "store f new 4 20 12 2", "code 1 4 20 12 2: refused 17: the wiring is above 1");
+    place.refused(1, "store f new 4 20 12 x", "WIRING is \"x\"");
     place.refused(1, "store f new 4 20 x", "K is \"x\"");
     place.refused(1, "store f new 4 +20 12", "N is \"+20\"");
     assert!(!place.at("new").exists());
@@ -253,7 +275,9 @@ fn other_folders_are_no_store() {
         [one, two, "bytes 99999999999999999999\n"],
         [one, "code 0 2 9 4\n", three],
         [one, "code 1 4 20 17\n", three],
-        [one, "code 1 4 20 12 1\n", three],
+        [one, "code 1 4 20 12 0\n", three],
+        [one, "code 1 4 20 12 2\n", three],
+        [one, "code 1 4 20 12 1 1\n", three],
         [one, "code 1 4 20\n", three],
         ["latsefidy store 2\n", two, three],
         ["latsefidy store 1\r\n", two, three],
@@ -280,7 +304,7 @@ fn usage_touches_nothing() {
         place.refused(0, line, &usage);
     }
     let wrong =
-        ["", "wat", "store", "store f", "store f x 4", "store f x 4 20", "store f x 4 20 12 1", "lose", "lose d"];
+        ["", "wat", "store", "store f", "store f x 4", "store f x 4 20", "store f x 4 20 12 1 1", "lose", "lose d"];
     for line in wrong.into_iter().chain(["load", "load d", "load d g h", "f d"]) {
         place.refused(2, line, &usage);
     }
