@@ -6,14 +6,14 @@
  * symbol of a group is repaired from the other r, its mates. Up to the guarantee,
  * n - k - ceil(k / r) + 1, any lost symbols are decoded.
  *
+ * Marks are a byte a slot: 0 kept, 1 lost. A lost slot may hold any byte; it is never read. A wrong
+ * symbol in a slot that is marked as kept is not covered: decode may refuse it (9), or give another
+ * message.
+ *
  * Wiring. It says which slots make a group. Under wiring 0 they stand side by side: slot p is
  * member p mod (r + 1) of group p div (r + 1). Under wiring 1 the groups are spread: slot p is
  * member p div G of group p mod G, so that G slots side by side, as on a shelf, have one of each
  * group. The symbol of a member of a group is the same under both; only its slot differs.
- *
- * Marks are a byte a slot: 0 kept, 1 lost. A lost slot may hold any byte; it is never read. A wrong
- * symbol in a slot that is marked as kept is not covered: decode may refuse it (9), or give another
- * message.
  *
  * Buffers. Each is a pointer and a length. Pointers point to that many readable elements (writable
  * where not const), and the buffers of one call do not overlap. Pointers are never null, not even
