@@ -3,7 +3,7 @@
  * Every stripe is handed to the calls four times: with 0x00, 0xFF and random bytes in its lost slots, and then with
  * these slots out of reach, so that valgrind reports every load of one. All four must answer the same and leave the
  * same bytes. The local pass writes the lost symbol of a group with exactly one loss: that byte is undefined instead,
- * and may be written but not used. The group view reads no symbol at all.
+ * and may be written but not used. The group view reads no symbol at all. Each code is tried under both wirings.
  */
 #include <stdint.h>
 #include <stdio.h>
@@ -17,7 +17,7 @@
 #define SEED 2014u
 
 typedef struct {
-    uint32_t field, r, n, k;
+    uint32_t field, r, n, k, wiring;
 } Code;
 
 typedef struct {
@@ -40,9 +40,9 @@ static const char *const call_name[CALLS] = {"decode", "record", "write_sheet", 
 enum { ZEROS, ONES, RANDOM, OUT_OF_REACH, FILLINGS };
 
 static const Code codes[] = {
-    {0, 2, 9, 4},    {0, 2, 9, 6},    {0, 1, 12, 5},     {0, 3, 12, 7},     {0, 5, 12, 8},
-    {0, 11, 12, 11}, {0, 2, 12, 1},   {1, 2, 9, 5},      {1, 4, 10, 3},     {1, 4, 50, 37},
-    {1, 14, 45, 30}, {1, 16, 34, 20}, {1, 2, 255, 160},  {1, 16, 255, 200}, {1, 16, 255, 240},
+    {0, 2, 9, 4, 0},    {0, 2, 9, 6, 0},    {0, 1, 12, 5, 0},     {0, 3, 12, 7, 0},     {0, 5, 12, 8, 0},
+    {0, 11, 12, 11, 0}, {0, 2, 12, 1, 0},   {1, 2, 9, 5, 0},      {1, 4, 10, 3, 0},     {1, 4, 50, 37, 0},
+    {1, 14, 45, 30, 0}, {1, 16, 34, 20, 0}, {1, 2, 255, 160, 0},  {1, 16, 255, 200, 0}, {1, 16, 255, 240, 0},
 };
 
 static uint32_t state = SEED;
@@ -56,8 +56,8 @@ static uint32_t random_below(uint32_t most) {
 }
 
 static void fail(const Stripe *s, int call, const char *what) {
-    fprintf(stderr, "lost-unread: %s, %s, code %u %u %u %u: %s\n", call_name[call], s->kind, s->code.field, s->code.r,
-            s->code.n, s->code.k, what);
+    fprintf(stderr, "lost-unread: %s, %s, code %u %u %u %u %u: %s\n", call_name[call], s->kind, s->code.field,
+            s->code.r, s->code.n, s->code.k, s->code.wiring, what);
     exit(1);
 }
 
@@ -68,11 +68,22 @@ static uint32_t guarantee(const Stripe *s) {
     return c.n - c.k - (c.k + c.r - 1) / c.r + 1;
 }
 
+static uint32_t groups(const Stripe *s) { return s->code.n / (s->code.r + 1); }
+
+static uint32_t group_of(const Stripe *s, uint32_t slot) {
+    return s->code.wiring ? slot % groups(s) : slot / (s->code.r + 1);
+}
+
 static uint32_t group_losses(const Stripe *s, uint32_t slot) {
-    const uint32_t size = s->code.r + 1, first = slot - slot % size;
     uint32_t lost = 0;
-    for (uint32_t p = first; p < first + size; p++) lost += s->marks[p];
+    for (uint32_t p = 0; p < s->code.n; p++) lost += group_of(s, p) == group_of(s, slot) && s->marks[p];
     return lost;
+}
+
+/* Any slot of a group. */
+static uint32_t random_member(const Stripe *s, uint32_t group) {
+    const uint32_t i = random_below(s->code.r + 1);
+    return s->code.wiring ? group + i * groups(s) : group * (s->code.r + 1) + i;
 }
 
 /* Marks so many more slots, at most all of them. */
@@ -90,7 +101,7 @@ static void lose(Stripe *s, uint32_t number) {
 static void lose_within(Stripe *s) { lose(s, 1 + random_below(guarantee(s))); }
 
 static void lose_one_a_group(Stripe *s) {
-    for (uint32_t g = 0; g < s->code.n; g += s->code.r + 1) s->marks[g + random_below(s->code.r + 1)] = 1;
+    for (uint32_t g = 0; g < groups(s); g++) s->marks[random_member(s, g)] = 1;
 }
 
 static void lose_beyond(Stripe *s) {
@@ -100,9 +111,8 @@ static void lose_beyond(Stripe *s) {
 
 /* 0, 1 or more losses in each group. */
 static void lose_mixed(Stripe *s) {
-    const uint32_t size = s->code.r + 1;
-    for (uint32_t g = 0; g < s->code.n; g += size)
-        for (uint32_t i = random_below(4); i > 0; i--) s->marks[g + random_below(size)] = 1;
+    for (uint32_t g = 0; g < groups(s); g++)
+        for (uint32_t i = random_below(4); i > 0; i--) s->marks[random_member(s, g)] = 1;
 }
 
 static void lose_too_many(Stripe *s) { lose(s, s->code.n - s->code.k + 1 + random_below(s->code.k)); }
@@ -134,7 +144,7 @@ static void make_stripe(Stripe *s, Code code, size_t kind) {
     s->kind = kinds[kind].name;
     s->foreign = kinds[kind].foreign;
     for (uint32_t m = 0; m < code.k; m++) s->message[m] = (uint8_t)random_below(order(s));
-    if (latsefidy_encode(code.field, code.r, code.n, code.k, s->message, code.k, s->word, code.n) != 0) {
+    if (latsefidy_encode(code.field, code.r, code.n, code.k, code.wiring, s->message, code.k, s->word, code.n) != 0) {
         fprintf(stderr, "lost-unread: a code of the test is refused\n");
         exit(1);
     }
@@ -168,19 +178,19 @@ static void put_out_of_reach(const Stripe *s, int call, uint8_t *word) {
 
 static uint64_t make_call(int call, const Stripe *s, uint8_t *word, uint8_t *marks, Left *left) {
     const Code c = s->code;
-    const uint32_t n = c.n, k = c.k;
+    const uint32_t n = c.n, k = c.k, w = c.wiring;
     switch (call) {
     case DECODE:
-        return latsefidy_decode(c.field, c.r, n, k, word, n, marks, n, left->message, k, left->work, n * (k + 1));
+        return latsefidy_decode(c.field, c.r, n, k, w, word, n, marks, n, left->message, k, left->work, n * (k + 1));
     case RECORD:
-        return latsefidy_record(c.field, c.r, n, k, word, n, marks, n, left->message, k, left->work, n * (k + 1),
+        return latsefidy_record(c.field, c.r, n, k, w, word, n, marks, n, left->message, k, left->work, n * (k + 1),
                                 left->record, LATSEFIDY_RECORD);
     case WRITE_SHEET:
-        return latsefidy_write_sheet(c.field, c.r, n, k, word, n, marks, n, left->sheet, 4 * (n + 2));
+        return latsefidy_write_sheet(c.field, c.r, n, k, w, word, n, marks, n, left->sheet, 4 * (n + 2));
     case LOCAL_PASS:
-        return latsefidy_local_pass(c.field, c.r, n, k, word, n, marks, n);
+        return latsefidy_local_pass(c.field, c.r, n, k, w, word, n, marks, n);
     default:
-        return latsefidy_view(c.field, c.r, n, k, n - 1, word, n);
+        return latsefidy_view(c.field, c.r, n, k, w, n - 1, word, n);
     }
 }
 
@@ -247,17 +257,18 @@ int main(int argc, char **argv) {
     }
     if (argc > 1 && strcmp(argv[1], "probe") == 0) return probe();
     Stripe s;
-    for (size_t c = 0; c < COUNT(codes); c++)
-        for (size_t kind = 0; kind < COUNT(kinds); kind++) {
-            make_stripe(&s, codes[c], kind);
-            for (int call = 0; call < CALLS; call++) compare(call, &s);
-        }
+    for (size_t i = 0; i < 2 * COUNT(codes) * COUNT(kinds); i++) {
+        Code code = codes[i / COUNT(kinds) / 2];
+        code.wiring = i / COUNT(kinds) % 2;
+        make_stripe(&s, code, i % COUNT(kinds));
+        for (int call = 0; call < CALLS; call++) compare(call, &s);
+    }
     if (!answers[0] || !answers[6] || !answers[9] || !answers[10] || !mended) {
         fprintf(stderr, "lost-unread: an answer was never met\n");
         return 1;
     }
-    printf("lost-unread: %lu calls with lost bytes out of reach, %zu codes, %zu patterns; ", guarded, COUNT(codes),
-           COUNT(kinds));
+    printf("lost-unread: %lu calls with lost bytes out of reach, %zu codes, 2 wirings, %zu patterns; ", guarded,
+           COUNT(codes), COUNT(kinds));
     printf("decode answered 0 %lu times, 6 %lu, 9 %lu, 10 %lu\n", answers[0], answers[6], answers[9], answers[10]);
     return 0;
 }
