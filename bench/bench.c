@@ -80,7 +80,7 @@ int main(int argc, char **argv) {
     struct {
         const char *name;
         void (*print)(void);
-    } tables[] = {{"rebuild", rebuild}, {"lengths", lengths}, {"stripes", stripes}, {"strips", strips}};
+    } tables[] = {{"rebuild", rebuild}, {"lengths", lengths}, {"stripes", stripes}, {"strips", strips}, {"wired", wired}};
     wide = __builtin_cpu_supports("avx512bw") && __builtin_cpu_supports("avx512vl") && __builtin_cpu_supports("avx512dq");
     for (size_t a = 0; a < sizeof tables / sizeof *tables; a++) {
         int named = argc == 1;

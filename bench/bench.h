@@ -9,15 +9,17 @@
 #define LEVEL(s)                                                                                                            \
     _Bool rebuild_strips##s(const uint8_t *weights, size_t r, const uint8_t *strips, size_t strips_len, uint8_t *output,    \
                             size_t output_len);                                                                             \
-    uint32_t latsefidy_rebuild##s(uint32_t field, uint32_t r, uint32_t n, uint32_t k, uint32_t slot,                        \
+    uint32_t latsefidy_rebuild##s(uint32_t field, uint32_t r, uint32_t n, uint32_t k, uint32_t wiring, uint32_t slot,       \
                                   const uint8_t *strips, size_t strips_len, uint8_t *out, size_t out_len);                  \
-    uint64_t latsefidy_repair##s(uint32_t field, uint32_t r, uint32_t n, uint32_t k, uint32_t slot, const uint8_t *mates,   \
-                                 size_t mates_len);                                                                         \
-    uint32_t latsefidy_weights##s(uint32_t field, uint32_t r, uint32_t n, uint32_t k, uint32_t slot, uint8_t *weights,      \
-                                  size_t weights_len);                                                                      \
-    uint32_t latsefidy_encode##s(uint32_t field, uint32_t r, uint32_t n, uint32_t k, const uint8_t *message,                \
-                                 size_t message_len, uint8_t *codeword, size_t codeword_len);                               \
-    uint32_t latsefidy_decode##s(uint32_t field, uint32_t r, uint32_t n, uint32_t k, const uint8_t *word,                   \
+    uint64_t latsefidy_repair##s(uint32_t field, uint32_t r, uint32_t n, uint32_t k, uint32_t wiring, uint32_t slot,        \
+                                 const uint8_t *mates, size_t mates_len);                                                   \
+    uint32_t latsefidy_weights##s(uint32_t field, uint32_t r, uint32_t n, uint32_t k, uint32_t wiring, uint32_t slot,       \
+                                  uint8_t *weights, size_t weights_len);                                                    \
+    uint32_t latsefidy_encode##s(uint32_t field, uint32_t r, uint32_t n, uint32_t k, uint32_t wiring,                       \
+                                 const uint8_t *message, size_t message_len, uint8_t *codeword, size_t codeword_len);       \
+    uint64_t latsefidy_local_pass##s(uint32_t field, uint32_t r, uint32_t n, uint32_t k, uint32_t wiring, uint8_t *word,    \
+                                     size_t word_len, uint8_t *marks, size_t marks_len);                                    \
+    uint32_t latsefidy_decode##s(uint32_t field, uint32_t r, uint32_t n, uint32_t k, uint32_t wiring, const uint8_t *word,  \
                                  size_t word_len, const uint8_t *marks, size_t marks_len, uint8_t *message,                 \
                                  size_t message_len, uint8_t *work, size_t work_len);
 LEVEL()
@@ -55,5 +57,6 @@ void rebuild(void);
 void lengths(void);
 void stripes(void);
 void strips(void);
+void wired(void);
 
 #endif

@@ -23,9 +23,9 @@ static void stripe(void) {
     ec_init_tables(k, n, generator, tables);
 }
 
-static void encode(void) { answer = latsefidy_encode(1, r, n, k, message, k, codeword, n); }
-static void encode_v3(void) { answer = latsefidy_encode_v3(1, r, n, k, message, k, codeword, n); }
-static void encode_v4(void) { answer = latsefidy_encode_v4(1, r, n, k, message, k, codeword, n); }
+static void encode(void) { answer = latsefidy_encode(1, r, n, k, 0, message, k, codeword, n); }
+static void encode_v3(void) { answer = latsefidy_encode_v3(1, r, n, k, 0, message, k, codeword, n); }
+static void encode_v4(void) { answer = latsefidy_encode_v4(1, r, n, k, 0, message, k, codeword, n); }
 static void isal_encode(void) { answer = 0, ec_encode_data(1, k, n, tables, symbols, places); }
 static void isal_parity(void) { answer = 0, ec_encode_data(1, k, n - k, tables, symbols, places); }
 
@@ -54,7 +54,7 @@ static void encodes(void) {
     printf("\n\n");
 }
 
-#define DECODE(s) answer = latsefidy_decode##s(1, r, n, k, word, n, marks, n, back, k, work, (size_t)n * (k + 1))
+#define DECODE(s) answer = latsefidy_decode##s(1, r, n, k, 0, word, n, marks, n, back, k, work, (size_t)n * (k + 1))
 static void decode(void) { DECODE(); }
 static void decode_v3(void) { DECODE(_v3); }
 static void decode_v4(void) { DECODE(_v4); }

@@ -106,10 +106,10 @@ static void encode(int level, int c) {
     for (int end = c + TURN; c < end; c++)
         if (in_strips) {
             gather(message, messages + c, k, NULL);
-            refused |= levels[level].encode(1, r, n, k, message, k, codeword, n);
+            refused |= levels[level].encode(1, r, n, k, 0, message, k, codeword, n);
             scatter(codeword, made + c, n);
         } else
-            refused |= levels[level].encode(1, r, n, k, messages + c * k, k, made + c * n, n);
+            refused |= levels[level].encode(1, r, n, k, 0, messages + c * k, k, made + c * n, n);
 }
 
 static void decode(int level, int c) {
@@ -119,10 +119,10 @@ static void decode(int level, int c) {
     for (int end = c + TURN; c < end; c++)
         if (in_strips) {
             gather(word, kept + c, n, marks);
-            refused |= levels[level].decode(1, r, n, k, word, n, marks, n, message, k, lent, most);
+            refused |= levels[level].decode(1, r, n, k, 0, word, n, marks, n, message, k, lent, most);
             scatter(message, made + c, k);
         } else
-            refused |= levels[level].decode(1, r, n, k, kept + c * n, n, marks, n, made + c * k, k, lent, most);
+            refused |= levels[level].decode(1, r, n, k, 0, kept + c * n, n, marks, n, made + c * k, k, lent, most);
 }
 
 static void isal(int decoding) {
