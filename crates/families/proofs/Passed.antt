@@ -16,10 +16,11 @@ use Rattle.code.specs.declared.Code.{Code}
 use Rattle.code.specs.declared.Shape.{Shape}
 use Rattle.code.specs.Question.{ask}
 use Rattle.code.specs.Shape.{size, groups, room, whole, wired}
-use Rattle.code.specs.Family.{field-known, r-fits}
+use Rattle.code.specs.Family.{single, field-known, r-fits, wiring-fits}
 use Rattle.code.specs.Laws.{Placed}
 use Rattle.code.proofs.Questions.{asked}
-use Rattle.families.specs.Family.{general, double, length-fits, least, dimension-fits, wiring-fits, general-refusal, double-refusal}
+use Rattle.code.proofs.Accepted.{whole-of}
+use Rattle.families.specs.Family.{double, length-fits, least, dimension-fits, general-refusal, double-refusal}
 
 pub placed-by : (s : Shape) → T (field-known s) → T (r-fits s) → T (length-fits s) → 1 ≤ s .tolerance → (wired s ≡ true → whole s ≡ true) → Placed s
 unfolding field-known r-fits length-fits
@@ -68,16 +69,16 @@ unfolding least
 least-short s w = rw w refl
 
 -- either wiring of whole groups, or wiring 0
-spread-whole : (s : Shape) → T (wiring-fits s) → wired s ≡ true → whole s ≡ true
-unfolding wiring-fits wired
-spread-whole s t e = go (eqb (s .wiring) 0) (λ z. eqb→eq (s .wiring) 0 z) t
+spread-whole : (s : Shape) → 1 ≤ s .tolerance → T (wiring-fits s) → wired s ≡ true → whole s ≡ true
+unfolding wiring-fits wired size
+spread-whole s some t e = go (eqb (s .wiring) 0) (λ z. eqb→eq (s .wiring) 0 z) t
   where
     one : s .wiring ≡ 1
     one = eqb→eq (s .wiring) 1 (so e)
 
-    go : (b : Bool) → (T b → s .wiring ≡ 0) → T (b || (eqb (s .wiring) 1 && whole s)) → whole s ≡ true
+    go : (b : Bool) → (T b → s .wiring ≡ 0) → T (b || (eqb (s .wiring) 1 && eqb (s .n % size s) 0)) → whole s ≡ true
     go true z v = let n : s .wiring ≡ 0 = z tt in absurd (omega (arith, one))
-    go false z v = yes-true (whole s) (and-right (eqb (s .wiring) 1) (whole s) v)
+    go false z v = whole-of s (omega arith) (eqb→eq (s .n % size s) 0 (and-right (eqb (s .wiring) 1) (eqb (s .n % size s) 0) v))
 
 pub record Passed (s : Shape) : Type 0 where
   pub placed : Placed s
@@ -85,10 +86,10 @@ pub record Passed (s : Shape) : Type 0 where
   pub k-low : least s ≤ s .k
   pub k-most : s .k + s .tolerance * groups s ≤ s .n
 
-pub general-passed : (w : ℕ) (c : Code) → general-refusal w c ≡ 0 → Passed (general w c)
+pub general-passed : (c : Code) → general-refusal c ≡ 0 → Passed (single c)
 unfolding general-refusal
-general-passed w c e =
-    let s = general w c in
+general-passed c e =
+    let s = single c in
     let t₁ = asked (field-known s) 0 (ask (r-fits s) 2 (ask (length-fits s) 3 (ask (dimension-fits s) 4 (ask (wiring-fits s) 17 0)))) e in
     let t₂ = asked (r-fits s) 1 (ask (length-fits s) 3 (ask (dimension-fits s) 4 (ask (wiring-fits s) 17 0))) (t₁ .1) in
     let t₃ = asked (length-fits s) 2 (ask (dimension-fits s) 4 (ask (wiring-fits s) 17 0)) (t₂ .1) in
@@ -96,20 +97,20 @@ general-passed w c e =
     let t₅ = asked (wiring-fits s) 16 0 (t₄ .1) in
     let b = k-by s (t₄ .0) in
     record {
-      placed = placed-by s (t₁ .0) (t₂ .0) (t₃ .0) (omega arith) (spread-whole s (t₅ .0));
+      placed = placed-by s (t₁ .0) (t₂ .0) (t₃ .0) (omega arith) (spread-whole s (omega arith) (t₅ .0));
       more = not-one s (t₃ .0);
       k-low = b .0;
       k-most = b .1;
     }
 
-pub double-passed : (w : ℕ) (c : Code) → double-refusal w c ≡ 0 → Passed (double w c) × (whole (double w c) ≡ true)
+pub double-passed : (c : Code) → double-refusal c ≡ 0 → Passed (double c) × (whole (double c) ≡ true)
 unfolding double-refusal
-double-passed w c e =
-    let s = double w c in
-    let t₁ = asked (field-known s) 0 (ask (r-fits s) 2 (ask (length-fits s && whole s) 3 (ask (dimension-fits s) 4 (ask (eqb w 0) 17 0)))) e in
-    let t₂ = asked (r-fits s) 1 (ask (length-fits s && whole s) 3 (ask (dimension-fits s) 4 (ask (eqb w 0) 17 0))) (t₁ .1) in
-    let t₃ = asked (length-fits s && whole s) 2 (ask (dimension-fits s) 4 (ask (eqb w 0) 17 0)) (t₂ .1) in
-    let t₄ = asked (dimension-fits s) 3 (ask (eqb w 0) 17 0) (t₃ .1) in
+double-passed c e =
+    let s = double c in
+    let t₁ = asked (field-known s) 0 (ask (r-fits s) 2 (ask (length-fits s && whole s) 3 (ask (dimension-fits s) 4 (ask (eqb (s .wiring) 0) 17 0)))) e in
+    let t₂ = asked (r-fits s) 1 (ask (length-fits s && whole s) 3 (ask (dimension-fits s) 4 (ask (eqb (s .wiring) 0) 17 0))) (t₁ .1) in
+    let t₃ = asked (length-fits s && whole s) 2 (ask (dimension-fits s) 4 (ask (eqb (s .wiring) 0) 17 0)) (t₂ .1) in
+    let t₄ = asked (dimension-fits s) 3 (ask (eqb (s .wiring) 0) 17 0) (t₃ .1) in
     let n = and-left (length-fits s) (whole s) (t₃ .0) in
     let h : whole s ≡ true = yes-true (whole s) (and-right (length-fits s) (whole s) (t₃ .0)) in
     let b = k-by s (t₄ .0) in

@@ -1,7 +1,7 @@
 -- All statements of specs/Promise.antt are proved. Assumes nothing.
 --   promises    each of them, from the file of its idea
 use Rattle.families.specs.Promise.{Promises}
-use Rattle.families.proofs.Families.{general-are, whole-are, double-are, stay-accepted, either-wiring}
+use Rattle.families.proofs.Families.{general-are, whole-are, double-are, stay-accepted}
 use Rattle.families.proofs.TwoWay.{two-way-are}
 use Rattle.families.proofs.Ways.{ways-same, ways-apart, way-back}
 
@@ -13,7 +13,6 @@ promises =
       double-are = double-are;
       two-way-are = two-way-are;
       stay-accepted = stay-accepted;
-      either-wiring = either-wiring;
       ways-same = ways-same;
       ways-apart = ways-apart;
       way-back = way-back;

@@ -1,9 +1,9 @@
 -- The families of codes that no call serves yet: which shape the numbers mean, and the questions on them. Assumes nothing: these are definitions.
---   general w c       the codes of the paper in wiring w and of any length: the last group may be short
---   double w c        groups of r + 2 that stand two losses
+--   double c          groups of r + 2 that stand two losses
 --   two-way f u v k   two group sizes: the wired whole code of length q - 1 with groups of u, less the exponents that v forbids
---   general-refusal w c, double-refusal w c, sizes-refusal f u v k    the questions of each, in order
-use mathlib.Core.Bool.{Bool, cond, not, _&&_, _||_}
+--   general-refusal c the questions on codes of the paper of any length, whose last group may be short
+--   double-refusal c, sizes-refusal f u v k    the questions of the other two, in order
+use mathlib.Core.Bool.{Bool, cond, not, _&&_}
 use Prim.Native.Nat.{ℕ, _+_, _*_, _-_, _/_, _%_}
 use lib.Dec.{leb, eqb}
 use Rattle.algebra.specs.Sequence.{every}
@@ -12,16 +12,10 @@ use Rattle.code.specs.declared.Code.{Code}
 use Rattle.code.specs.declared.Shape.{Shape}
 use Rattle.code.specs.Question.{ask}
 use Rattle.code.specs.Shape.{size, groups, room, whole}
-use Rattle.code.specs.Family.{field-known, r-fits}
+use Rattle.code.specs.Family.{single, field-known, r-fits, wiring-fits}
 
-abbrev pub grouped : (tolerance wiring : ℕ) → Code → Shape
-grouped t w c = record { field = c .field; r = c .r; n = c .n; k = c .k; wiring = w; tolerance = t; second = 0 }
-
-abbrev pub general : (wiring : ℕ) → Code → Shape
-general w c = grouped 1 w c
-
-abbrev pub double : (wiring : ℕ) → Code → Shape
-double w c = grouped 2 w c
+abbrev pub double : Code → Shape
+double c = record { field = c .field; r = c .r; n = c .n; k = c .k; wiring = c .wiring; tolerance = 2; second = 0 }
 
 abbrev pub two-way : (field u v k : ℕ) → Shape
 two-way f u v k = record { field = f; r = u - 1; n = q f - 1; k = k; wiring = 1; tolerance = 1; second = v }
@@ -38,20 +32,16 @@ least s = cond (whole s) 1 (s .n % size s - 1)
 unfoldable pub dimension-fits : Shape → Bool
 dimension-fits s = leb (least s) (s .k) && leb (s .k + s .tolerance * groups s) (s .n)
 
--- 17: is the wiring 0, or 1 with whole groups?
-unfoldable pub wiring-fits : Shape → Bool
-wiring-fits s = eqb (s .wiring) 0 || (eqb (s .wiring) 1 && whole s)
-
-unfoldable pub general-refusal : (wiring : ℕ) → Code → ℕ
-general-refusal w c =
-    let s = general w c in
+unfoldable pub general-refusal : Code → ℕ
+general-refusal c =
+    let s = single c in
     ask (field-known s) 1 (ask (r-fits s) 2 (ask (length-fits s) 3 (ask (dimension-fits s) 4 (ask (wiring-fits s) 17 0))))
 
 -- whole groups and wiring 0 only
-unfoldable pub double-refusal : (wiring : ℕ) → Code → ℕ
-double-refusal w c =
-    let s = double w c in
-    ask (field-known s) 1 (ask (r-fits s) 2 (ask (length-fits s && whole s) 3 (ask (dimension-fits s) 4 (ask (eqb w 0) 17 0))))
+unfoldable pub double-refusal : Code → ℕ
+double-refusal c =
+    let s = double c in
+    ask (field-known s) 1 (ask (r-fits s) 2 (ask (length-fits s && whole s) 3 (ask (dimension-fits s) 4 (ask (eqb (s .wiring) 0) 17 0))))
 
 -- 21: are both sizes from 2 to 17, do they divide q - 1, and is no number from 2 on a factor of both?
 unfoldable pub size-fits : (field u : ℕ) → Bool

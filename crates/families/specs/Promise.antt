@@ -1,40 +1,38 @@
 -- What is promised of the families: every promise of crate code that asks for Family or Plain holds of them. Assumes nothing: these are statements.
 --   General-are, Whole-are, Double-are, Two-way-are    what an accepted shape is
---   Stay-accepted, Either-wiring                       the codes of the paper are among the general ones, in either wiring
+--   Stay-accepted                                      the codes of the paper are among the general ones
 --   Ways-same, Ways-apart, Way-back                    two ways home are two groupings of one code
 --   Promises                                           all of them
 use mathlib.Core.Path.{_≡_}
 use mathlib.Core.Bool.{true}
 use mathlib.Core.List.{List}
-use Prim.Native.Nat.{ℕ, _-_, _≤_, _<_}
+use Prim.Native.Nat.{ℕ, _-_, _<_}
 use Rattle.algebra.specs.Sequence.{In}
 use Rattle.field.specs.Field.{q}
 use Rattle.code.specs.declared.Code.{Code}
 use Rattle.code.specs.Shape.{whole, mates}
 use Rattle.code.specs.Codeword.{encoded}
+use Rattle.code.specs.Family.{single}
 use Rattle.code.specs.Laws.{Family, Plain}
 use Rattle.code.specs.Promise.{Accepted}
-use Rattle.families.specs.Family.{general, double, two-way, general-refusal, double-refusal, sizes-refusal}
+use Rattle.families.specs.Family.{double, two-way, general-refusal, double-refusal, sizes-refusal}
 
 unfoldable pub General-are : Type 0
-General-are = (w : ℕ) (c : Code) → general-refusal w c ≡ 0 → Family (general w c)
+General-are = (c : Code) → general-refusal c ≡ 0 → Family (single c)
 
 -- with whole groups they are plain in either wiring
 unfoldable pub Whole-are : Type 0
-Whole-are = (w : ℕ) (c : Code) → general-refusal w c ≡ 0 → whole (general w c) ≡ true → Plain (general w c)
+Whole-are = (c : Code) → general-refusal c ≡ 0 → whole (single c) ≡ true → Plain (single c)
 
 unfoldable pub Double-are : Type 0
-Double-are = (w : ℕ) (c : Code) → double-refusal w c ≡ 0 → Plain (double w c)
+Double-are = (c : Code) → double-refusal c ≡ 0 → Plain (double c)
 
 unfoldable pub Two-way-are : Type 0
 Two-way-are = (f u v k : ℕ) → sizes-refusal f u v k ≡ 0 → Family (two-way f u v k)
 
--- the codes of the paper are general ones, whose groups may be wired too: one proof for both wirings
+-- the codes of the paper are general ones
 unfoldable pub Stay-accepted : Type 0
-Stay-accepted = (w : ℕ) (c : Code) → Accepted c → w ≤ 1 → general-refusal w c ≡ 0
-
-unfoldable pub Either-wiring : Type 0
-Either-wiring = (w : ℕ) (c : Code) → Accepted c → w ≤ 1 → Plain (general w c)
+Stay-accepted = (c : Code) → Accepted c → general-refusal c ≡ 0
 
 -- both sizes give the same codewords
 unfoldable pub Ways-same : Type 0
@@ -56,7 +54,6 @@ pub record Promises : Type 0 where
   pub double-are : Double-are
   pub two-way-are : Two-way-are
   pub stay-accepted : Stay-accepted
-  pub either-wiring : Either-wiring
   pub ways-same : Ways-same
   pub ways-apart : Ways-apart
   pub way-back : Way-back
