@@ -13,14 +13,16 @@ use Rattle.field.specs.Field.{q, times}
 use Rattle.code.specs.declared.Code.{Code}
 use Rattle.code.specs.Shape.{point}
 use Rattle.code.specs.Codeword.{encoded, guarantee}
-use Rattle.code.specs.Erasure.{grade}
+use Rattle.code.specs.Erasure.{first-broken, grade}
 use Rattle.code.specs.Repair.{weights, repaired}
+use Rattle.code.specs.Pass.{passed, marks-after, mended}
 use Rattle.code.specs.Family.{code-of, single, code-refusal}
 use Rattle.code.specs.Verdict.{Verdict}
 use Rattle.code.specs.Promise.{Accepted, Message}
+use Rattle.words.specs.Word.{code-word, word-code}
 
 pub data Case : Type 0 where
-  -- questions 1 to 4 end with this number: 0 for an accepted code
+  -- questions 1 to 4 and 17 end with this number: 0 for an accepted code
   asks : (c : Code) (number : ℕ) → Case
   located : (c : Code) (points : List ℕ) → Case
   sure : (c : Code) (guarantee : ℕ) → Case
@@ -31,6 +33,12 @@ pub data Case : Type 0 where
   decodes : (c : Code) (word marks message : List ℕ) → Case
   declines : (c : Code) (word marks : List ℕ) (number : ℕ) → Case
   graded : (c : Code) (marks : List ℕ) (grade : ℕ) → Case
+  -- the first broken group, 255 if none
+  breaks : (c : Code) (marks : List ℕ) (group : ℕ) → Case
+  -- the local pass: the word and the marks after it, and how many groups it repairs
+  passes : (c : Code) (word marks after left : List ℕ) (number : ℕ) → Case
+  -- the code word of a sheet, there and back
+  spells : (c : Code) (word : ℕ) → Case
   multiplies : (field a b product : ℕ) → Case
 
 abbrev pub Holds : Case → Type 0
@@ -44,11 +52,15 @@ Holds (repairs c p xs x) =
 Holds (decodes c ws ms xs) = Accepted c × ((buffer : List ℕ) → Verdict (single c) ws ms buffer xs 0)
 Holds (declines c ws ms number) = Accepted c × ((buffer : List ℕ) → Verdict (single c) ws ms buffer buffer number)
 Holds (graded c ms g) = Accepted c × (grade (single c) ms ≡ g)
+Holds (breaks c ms g) = Accepted c × (first-broken (single c) ms ≡ g)
+Holds (passes c ws ms vs ns n) =
+    Accepted c × (passed (single c) ws ms ≡ vs) × (marks-after (single c) ms ≡ ns) × (mended (single c) ms ≡ n)
+Holds (spells c w) = Accepted c × (code-word c ≡ w) × (word-code w ≡ c)
 Holds (multiplies f a b p) = times f a b ≡ p
 
 -- the sheet's code N, and its codeword of 1 1 1 1
 abbrev pub N : Code
-N = code-of 0 2 9 4
+N = code-of 0 2 9 4 0
 
 abbrev pub ones : List ℕ
 ones = 1 ∷ 1 ∷ 1 ∷ 1 ∷ []
@@ -56,17 +68,36 @@ ones = 1 ∷ 1 ∷ 1 ∷ 1 ∷ []
 abbrev pub word : List ℕ
 word = 4 ∷ 8 ∷ 7 ∷ 1 ∷ 11 ∷ 2 ∷ 0 ∷ 0 ∷ 0 ∷ []
 
+-- N wired, and a wired code over bytes, with codewords
+abbrev pub W : Code
+W = code-of 0 2 9 4 1
+
+abbrev pub wired-message : List ℕ
+wired-message = 1 ∷ 2 ∷ 3 ∷ 4 ∷ []
+
+abbrev pub wired-word : List ℕ
+wired-word = 10 ∷ 2 ∷ 3 ∷ 9 ∷ 8 ∷ 0 ∷ 6 ∷ 0 ∷ 4 ∷ []
+
+abbrev pub B : Code
+B = code-of 1 2 9 5 1
+
+abbrev pub byte-message : List ℕ
+byte-message = 1 ∷ 2 ∷ 3 ∷ 4 ∷ 255 ∷ []
+
+abbrev pub byte-word : List ℕ
+byte-word = 251 ∷ 108 ∷ 97 ∷ 51 ∷ 244 ∷ 1 ∷ 53 ∷ 176 ∷ 125 ∷ []
+
 abbrev pub cases : List Case
 cases =
     located N (1 ∷ 3 ∷ 9 ∷ 2 ∷ 6 ∷ 5 ∷ 4 ∷ 12 ∷ 10 ∷ [])
     ∷ encodes N ones word
     ∷ encodes N (1 ∷ 2 ∷ 3 ∷ 4 ∷ []) (10 ∷ 9 ∷ 6 ∷ 2 ∷ 8 ∷ 0 ∷ 3 ∷ 0 ∷ 4 ∷ [])
-    ∷ encodes (code-of 0 3 12 7) (1 ∷ 2 ∷ 3 ∷ 4 ∷ 5 ∷ 6 ∷ 7 ∷ []) (2 ∷ 7 ∷ 1 ∷ 12 ∷ 12 ∷ 4 ∷ 9 ∷ 6 ∷ 1 ∷ 0 ∷ 2 ∷ 8 ∷ [])
-    ∷ encodes (code-of 1 2 9 5) (1 ∷ 2 ∷ 3 ∷ 4 ∷ 255 ∷ []) (251 ∷ 51 ∷ 53 ∷ 108 ∷ 244 ∷ 176 ∷ 97 ∷ 1 ∷ 125 ∷ [])
+    ∷ encodes (code-of 0 3 12 7 0) (1 ∷ 2 ∷ 3 ∷ 4 ∷ 5 ∷ 6 ∷ 7 ∷ []) (2 ∷ 7 ∷ 1 ∷ 12 ∷ 12 ∷ 4 ∷ 9 ∷ 6 ∷ 1 ∷ 0 ∷ 2 ∷ 8 ∷ [])
+    ∷ encodes (code-of 1 2 9 5 0) (1 ∷ 2 ∷ 3 ∷ 4 ∷ 255 ∷ []) (251 ∷ 51 ∷ 53 ∷ 108 ∷ 244 ∷ 176 ∷ 97 ∷ 1 ∷ 125 ∷ [])
     ∷ repairs N 0 (8 ∷ 7 ∷ []) 4
-    ∷ repairs (code-of 0 2 3 1) 0 (5 ∷ 7 ∷ []) 0
-    ∷ weighs (code-of 1 4 10 3) 7 (146 ∷ 221 ∷ 10 ∷ 68 ∷ [])
-    ∷ repairs (code-of 1 4 10 3) 7 (10 ∷ 200 ∷ 30 ∷ 140 ∷ []) 246
+    ∷ repairs (code-of 0 2 3 1 0) 0 (5 ∷ 7 ∷ []) 0
+    ∷ weighs (code-of 1 4 10 3 0) 7 (146 ∷ 221 ∷ 10 ∷ 68 ∷ [])
+    ∷ repairs (code-of 1 4 10 3 0) 7 (10 ∷ 200 ∷ 30 ∷ 140 ∷ []) 246
     ∷ sure N 4
     ∷ decodes N word (1 ∷ 1 ∷ 1 ∷ 1 ∷ 0 ∷ 0 ∷ 0 ∷ 0 ∷ 0 ∷ []) ones
     ∷ graded N (1 ∷ 1 ∷ 1 ∷ 1 ∷ 0 ∷ 0 ∷ 0 ∷ 0 ∷ 0 ∷ []) 2
@@ -75,16 +106,48 @@ cases =
     ∷ declines N word (0 ∷ 0 ∷ 0 ∷ 0 ∷ 1 ∷ 1 ∷ 1 ∷ 1 ∷ 1 ∷ []) 10
     ∷ declines N (4 ∷ 8 ∷ 7 ∷ 1 ∷ 11 ∷ 2 ∷ 0 ∷ 0 ∷ 1 ∷ []) (0 ∷ 0 ∷ 0 ∷ 0 ∷ 0 ∷ 0 ∷ 0 ∷ 0 ∷ 0 ∷ []) 9
     ∷ declines N word (1 ∷ 1 ∷ 1 ∷ 1 ∷ 1 ∷ 1 ∷ 1 ∷ 1 ∷ 1 ∷ []) 10
-    ∷ asks (code-of 0 2 9 6) 0
-    ∷ asks (code-of 0 2 9 7) 4
-    ∷ asks (code-of 0 2 9 0) 4
-    ∷ asks (code-of 0 2 12 4) 0
-    ∷ asks (code-of 0 2 10 4) 3
-    ∷ asks (code-of 0 2 15 4) 3
-    ∷ asks (code-of 0 4 10 3) 2
-    ∷ asks (code-of 1 4 10 3) 0
-    ∷ asks (code-of 2 2 9 4) 1
-    ∷ sure (code-of 1 16 255 240) 1
+    ∷ asks (code-of 0 2 9 6 0) 0
+    ∷ asks (code-of 0 2 9 7 0) 4
+    ∷ asks (code-of 0 2 9 0 0) 4
+    ∷ asks (code-of 0 2 12 4 0) 0
+    ∷ asks (code-of 0 2 10 4 0) 3
+    ∷ asks (code-of 0 2 15 4 0) 3
+    ∷ asks (code-of 0 4 10 3 0) 2
+    ∷ asks (code-of 1 4 10 3 0) 0
+    ∷ asks (code-of 2 2 9 4 0) 1
+    ∷ sure (code-of 1 16 255 240 0) 1
+    ∷ asks W 0
+    ∷ asks (code-of 0 2 9 4 2) 17
+    ∷ asks (code-of 0 2 9 7 2) 4
+    ∷ located W (1 ∷ 2 ∷ 4 ∷ 3 ∷ 6 ∷ 12 ∷ 9 ∷ 5 ∷ 10 ∷ [])
+    ∷ located B (1 ∷ 2 ∷ 4 ∷ 214 ∷ 177 ∷ 127 ∷ 215 ∷ 179 ∷ 123 ∷ [])
+    ∷ encodes W ones (4 ∷ 1 ∷ 0 ∷ 8 ∷ 11 ∷ 0 ∷ 7 ∷ 2 ∷ 0 ∷ [])
+    ∷ encodes W wired-message wired-word
+    ∷ encodes (code-of 0 3 12 7 1) (1 ∷ 2 ∷ 3 ∷ 4 ∷ 5 ∷ 6 ∷ 7 ∷ []) (2 ∷ 12 ∷ 1 ∷ 7 ∷ 4 ∷ 0 ∷ 1 ∷ 9 ∷ 2 ∷ 12 ∷ 6 ∷ 8 ∷ [])
+    ∷ encodes B byte-message byte-word
+    ∷ repairs W 0 (8 ∷ 7 ∷ []) 4
+    ∷ repairs W 4 (1 ∷ 2 ∷ []) 11
+    ∷ weighs (code-of 1 4 10 3 1) 7 (68 ∷ 146 ∷ 221 ∷ 10 ∷ [])
+    ∷ repairs (code-of 1 4 10 3 1) 7 (10 ∷ 200 ∷ 30 ∷ 140 ∷ []) 241
+    ∷ sure W 4
+    ∷ sure B 2
+    ∷ passes W (255 ∷ 2 ∷ 3 ∷ 255 ∷ 255 ∷ 0 ∷ 6 ∷ 0 ∷ 4 ∷ []) (1 ∷ 0 ∷ 0 ∷ 1 ∷ 1 ∷ 0 ∷ 0 ∷ 0 ∷ 0 ∷ []) (255 ∷ 2 ∷ 3 ∷ 255 ∷ 8 ∷ 0 ∷ 6 ∷ 0 ∷ 4 ∷ []) (1 ∷ 0 ∷ 0 ∷ 1 ∷ 0 ∷ 0 ∷ 0 ∷ 0 ∷ 0 ∷ []) 1
+    ∷ passes B (255 ∷ 108 ∷ 97 ∷ 255 ∷ 255 ∷ 1 ∷ 53 ∷ 176 ∷ 125 ∷ []) (1 ∷ 0 ∷ 0 ∷ 1 ∷ 1 ∷ 0 ∷ 0 ∷ 0 ∷ 0 ∷ []) (255 ∷ 108 ∷ 97 ∷ 255 ∷ 244 ∷ 1 ∷ 53 ∷ 176 ∷ 125 ∷ []) (1 ∷ 0 ∷ 0 ∷ 1 ∷ 0 ∷ 0 ∷ 0 ∷ 0 ∷ 0 ∷ []) 1
+    ∷ decodes W (255 ∷ 255 ∷ 3 ∷ 255 ∷ 255 ∷ 0 ∷ 6 ∷ 0 ∷ 4 ∷ []) (1 ∷ 1 ∷ 0 ∷ 1 ∷ 1 ∷ 0 ∷ 0 ∷ 0 ∷ 0 ∷ []) wired-message
+    ∷ decodes W (10 ∷ 2 ∷ 255 ∷ 9 ∷ 8 ∷ 255 ∷ 255 ∷ 255 ∷ 255 ∷ []) (0 ∷ 0 ∷ 1 ∷ 0 ∷ 0 ∷ 1 ∷ 1 ∷ 1 ∷ 1 ∷ []) wired-message
+    ∷ declines W (10 ∷ 255 ∷ 255 ∷ 9 ∷ 255 ∷ 255 ∷ 6 ∷ 255 ∷ 4 ∷ []) (0 ∷ 1 ∷ 1 ∷ 0 ∷ 1 ∷ 1 ∷ 0 ∷ 1 ∷ 0 ∷ []) 10
+    ∷ declines W (10 ∷ 2 ∷ 3 ∷ 9 ∷ 8 ∷ 0 ∷ 6 ∷ 0 ∷ 5 ∷ []) (0 ∷ 0 ∷ 0 ∷ 0 ∷ 0 ∷ 0 ∷ 0 ∷ 0 ∷ 0 ∷ []) 9
+    ∷ decodes B (251 ∷ 255 ∷ 97 ∷ 51 ∷ 255 ∷ 1 ∷ 53 ∷ 176 ∷ 125 ∷ []) (0 ∷ 1 ∷ 0 ∷ 0 ∷ 1 ∷ 0 ∷ 0 ∷ 0 ∷ 0 ∷ []) byte-message
+    ∷ decodes B (255 ∷ 108 ∷ 97 ∷ 255 ∷ 244 ∷ 1 ∷ 53 ∷ 255 ∷ 125 ∷ []) (1 ∷ 0 ∷ 0 ∷ 1 ∷ 0 ∷ 0 ∷ 0 ∷ 1 ∷ 0 ∷ []) byte-message
+    ∷ declines B (255 ∷ 108 ∷ 97 ∷ 255 ∷ 244 ∷ 1 ∷ 255 ∷ 176 ∷ 125 ∷ []) (1 ∷ 0 ∷ 0 ∷ 1 ∷ 0 ∷ 0 ∷ 1 ∷ 0 ∷ 0 ∷ []) 10
+    ∷ declines B (251 ∷ 108 ∷ 97 ∷ 51 ∷ 244 ∷ 1 ∷ 53 ∷ 176 ∷ 124 ∷ []) (0 ∷ 0 ∷ 0 ∷ 0 ∷ 0 ∷ 0 ∷ 0 ∷ 0 ∷ 0 ∷ []) 9
+    ∷ breaks W (1 ∷ 0 ∷ 0 ∷ 0 ∷ 1 ∷ 0 ∷ 0 ∷ 1 ∷ 0 ∷ []) 1
+    ∷ breaks W (1 ∷ 0 ∷ 0 ∷ 0 ∷ 1 ∷ 1 ∷ 0 ∷ 0 ∷ 0 ∷ []) 255
+    ∷ breaks B (0 ∷ 1 ∷ 0 ∷ 0 ∷ 1 ∷ 0 ∷ 0 ∷ 0 ∷ 0 ∷ []) 1
+    ∷ graded W (0 ∷ 0 ∷ 0 ∷ 1 ∷ 1 ∷ 1 ∷ 0 ∷ 0 ∷ 0 ∷ []) 1
+    ∷ spells N 0x10020904
+    ∷ spells W 0x18020904
+    ∷ spells B 0x19020905
     ∷ multiplies 1 128 2 29
     ∷ []
 
