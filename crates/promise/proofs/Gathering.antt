@@ -1,46 +1,38 @@
--- The mates' symbols from the group view of a word. Assumes nothing.
---   seen-size           the view has the symbols of the group
---   gathered            what is gathered from it at the mates is what the word holds there
-use mathlib.Core.Path.{_≡_, ap, subst, _∙_}
+-- The mates' symbols, gathered from a group's span of a word. Assumes nothing.
+--   gathered      they are what the word holds at the mates
+--   taken         the first r of sixteen are they
+use mathlib.Core.Path.{_≡_, ap, _∙_}
 use mathlib.Core.List.{List}
 use Prim.Native.Nat.{ℕ, _<_}
 use native.Mathlib.Omega.{arith}
-use lib.ListN.{length, take}
-use denote.Ref.{RefT, now}
-use Rattle.code.specs.declared.Code.{Code}
-use Rattle.code.specs.Family.{single, code-refusal}
-use Rattle.code.specs.Shape.{size, room, group, member, mates}
+use lib.ListN.{take, drop}
+use Rattle.code.specs.declared.Shape.{Shape}
+use Rattle.code.specs.Shape.{room, group, member, first, mates}
 use Rattle.code.specs.Repair.{symbols-of}
-use Rattle.code.proofs.Accepted.{decodable-of, mending-of}
+use Rattle.code.specs.Laws.{Mending}
 use Rattle.code.proofs.Places.{n-room, group-below, member-below, slot-group-member}
+use Rattle.code.proofs.Mates.{mates-number, length-symbols}
 use Rattle.code.proofs.Bounds.{r-most}
-use Rattle.code.proofs.Parts.{Of-group}
+use Rattle.layout.specs.Step.{span}
 use Rattle.weights.specs.Weights.{sixteen}
 use Rattle.weights.proofs.Sixteen.{take-sixteen}
-use Rattle.view.specs.View.{View-says}
-use Rattle.view.specs.Promise.{View-holds}
-use Rattle.view.proofs.Promises.{view-holds}
 use Rattle.mending.specs.Step.{part-mates}
-use Rattle.mending.proofs.Members.{symbols-part, length-mates-part}
+use Rattle.mending.proofs.Members.{symbols-part}
+use Rattle.mending.proofs.Spliced.{lent-span}
 
-module _ (c : Code) (e : code-refusal c ≡ 0) (p : ℕ) (h : p < c .n) (word view : RefT (List ℕ)) (l : length (now word) ≡ c .n)
-    (says : View-says (code-refusal c) (single c) p word view) where
-  holds : (length (now view) ≡ size (single c)) × Of-group (single c) (group (single c) p) (now word) (now view)
-  unfolding View-holds
-  holds =
-      view-holds (single c) p word view (mending-of c e) (decodable-of c e .unwired) l h (subst (λ n. View-says n (single c) p word view) e says)
-
-  pub seen-size : length (now view) ≡ size (single c)
-  seen-size = holds .0
-
-  pub gathered : (i : ℕ) (xs : List ℕ) → i ≡ member (single c) p → xs ≡ sixteen (part-mates (single c) i (now view))
-      → take (c .r) xs ≡ symbols-of (now word) (mates (single c) p)
-  gathered i xs d g =
-      let s = single c in
-      let M = mending-of c e in
+module _ (s : Shape) (M : Mending s) (p : ℕ) (h : p < s .n) (ws : List ℕ) where
+  pub gathered : (m k i : ℕ) → first s (group s p) ≡ m → span s ≡ k → i ≡ member s p → part-mates s i (take k (drop m ws)) ≡ symbols-of ws (mates s p)
+  gathered m k i e d o =
       let P = M .placed in
-      let roomy : p < room s = omega (arith, n-room s P) in
-      ap (take (c .r)) (g ∙ ap (λ i. sixteen (part-mates s i (now view))) d)
-      ∙ take-sixteen (part-mates s (member s p) (now view)) (c .r) (length-mates-part s (member s p) (now view)) (r-most s P)
-      ∙ symbols-part s M (group s p) (member s p) (group-below s P p roomy) (member-below s P p roomy) (now word) (now view) (holds .1)
-      ∙ ap (λ o. symbols-of (now word) (mates s o)) (slot-group-member s P p)
+      let l : p < room s = omega (arith, n-room s P) in
+      let j : ℕ = group s p in
+      let b = group-below s P p l in
+      let part : List ℕ = take k (drop m ws) in
+      ap (λ i. part-mates s i part) o
+      ∙ symbols-part s M j (member s p) b (member-below s P p l) ws part (lent-span s M j m k b e d ws)
+      ∙ ap (λ o. symbols-of ws (mates s o)) (slot-group-member s P p)
+
+  pub taken : (xs : List ℕ) → xs ≡ sixteen (symbols-of ws (mates s p)) → take (s .r) xs ≡ symbols-of ws (mates s p)
+  taken xs e =
+      ap (take (s .r)) e
+      ∙ take-sixteen (symbols-of ws (mates s p)) (s .r) (length-symbols ws (mates s p) ∙ mates-number s M p h) (r-most s (M .placed))

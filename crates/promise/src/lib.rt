@@ -4,11 +4,16 @@ ghost use mathlib.Core.Bool.{false, cond};
 ghost use Prim.Native.Nat.{_<_};
 ghost use lib.ListN.{length};
 ghost use Rattle.algebra.specs.Sequence.{at};
+ghost use Rattle.code.specs.Shape.{mates};
 ghost use Rattle.code.specs.Decoding.{lost};
+ghost use Rattle.code.specs.Repair.{symbols-of};
+ghost use Rattle.code.specs.Laws.{Mending};
+ghost use Rattle.weights.specs.Weights.{sixteen};
 ghost use Rattle.promise.specs.RoundTrip.{after-loss, Comes-back, Restored};
 ghost use Rattle.promise.specs.Step.{Left};
 use code::Answer;
 use code::Code;
+use code::Shape;
 
 // What slot p holds: the other byte where it is lost. Only a kept slot need be in the codeword, so the mark is tested first.
 fn held(p: usize, codeword: &[u8], marks: &[u8], other: &[u8]) -> u8
@@ -75,6 +80,17 @@ pub fn encode_lose_decode(
     decode::decode(code, word, marks, back, work)
 }
 
+// What a slot's mates hold in a word, with zeros after their symbols.
+fn mates_in(shape: Shape, slot: u32, word: &[u8]) -> [u8; 16]
+    requires { ⌜ Mending shape × (slot < shape .n) × (length (now word) ≡ shape .n) ⌝ }
+    ensures { λ x. ⌜ x ≡ sixteen (symbols-of (now (word .entry)) (mates shape slot)) ⌝ }
+{
+    let start = layout::first_of(shape, layout::group_of(shape, slot)) as usize;
+    let end = start + layout::span_of(shape) as usize;
+    let member = layout::member_of(shape, slot);
+    mending::mates_of(shape, &word[start..end], member)
+}
+
 // Encodes a message, lets its lost slots hold other bytes, and repairs a slot from what its mates hold.
 pub fn encode_lose_repair(
     code: Code,
@@ -93,10 +109,7 @@ pub fn encode_lose_repair(
         return Answer { refusal, value: 0 };
     }
     let shape = layout::single(code);
-    let start = layout::first_of(shape, layout::group_of(shape, slot)) as usize;
-    let end = start + layout::span_of(shape) as usize;
-    let member = layout::member_of(shape, slot);
-    let mates = mending::mates_of(shape, &word[start..end], member);
+    let mates = mates_in(shape, slot, word);
     let r = code.r as usize;
     repair::repair(code, slot, &mates[..r])
 }

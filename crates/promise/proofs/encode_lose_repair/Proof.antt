@@ -6,14 +6,14 @@ use lib.Dec.{ltb, ltb→lt}
 use lib.ListN.{length}
 use lib.Seq.{length-take-le}
 use Rattle.code.specs.Family.{single, code-refusal}
-use Rattle.code.specs.Laws.{Placed, Mending}
+use Rattle.code.specs.Laws.{Mending}
 use Rattle.code.proofs.Accepted.{mending-of}
 use Rattle.code.proofs.Bounds.{r-most}
 use Rattle.code.proofs.Questions.{asked, or-ask-passed}
 use Rattle.repair.specs.Mates.{Repair-says}
 use Rattle.weights.proofs.Sixteen.{length-sixteen}
 use Rattle.promise.proofs.Returning.{sound, restored-refused, restored-given}
-use Rattle.promise.proofs.Gathering.{seen-size, gathered}
+use Rattle.promise.proofs.Gathering.{taken}
 use Rattle.promise.proofs.encode_lose_repair.Statement.{statement}
 use Rattle.promise.proofs.encode_lose_repair.Tie as tie
 
@@ -58,41 +58,30 @@ returns c =
 single-requires : tie.Need-single-requires
 single-requires c κs = search needs
 
-group-view-requires : tie.Need-group-view-requires
-group-view-requires c κs = search needs
-
-member-of-requires : tie.Need-member-of-requires
-member-of-requires c κs =
-    let t = c .before .before .before in
-    let a = t .before .before .before .before .before .before .before .before .before .before .before .before .before .before .before .args in (
-      subst Placed (sym (c .before .before .single .ensures)) (mending-of (a .code) (good t .0) .placed),
-      rw (c .before .before .single .ensures) (below t),
-    )
-
-mates-of-requires : tie.Need-mates-of-requires
-mates-of-requires c κs =
-    let t = c .before .before .before .before in
+mates-in-requires : tie.Need-mates-in-requires
+mates-in-requires c κs =
+    let t = c .before .before in
     let a = t .before .before .before .before .before .before .before .before .before .before .before .before .before .before .before .args in
-    let e = c .before .before .before .single .ensures in (
+    let e = c .before .single .ensures in (
       subst Mending (sym e) (mending-of (a .code) (good t .0)),
-      c .member-of .ensures .1,
-      rw e (seen-size (a .code) (good t .0) (a .slot) (below t) _ _ (good t .1) (c .before .group-view .ensures)),
+      rw e (below t),
+      rw e (good t .1),
     )
 
 cast-r : tie.Need-cast-r
 cast-r c = search needs
 
 -- there are sixteen
-sixteen-all : (c : tie.After-mates-of) → length (c .mates-of .result) ≡ 16
-sixteen-all c = ap length (c .mates-of .ensures) ∙ length-sixteen _
+sixteen-all : (c : tie.After-mates-in) → length (c .mates-in .result) ≡ 16
+sixteen-all c = ap length (c .mates-in .ensures) ∙ length-sixteen _
 
 array-share-prefix-mates : tie.Need-array-share-prefix-mates
-array-share-prefix-mates c = omega (arith, sixteen-all (c .before), r-few (c .before .before .before .before .before .before))
+array-share-prefix-mates c = omega (arith, sixteen-all (c .before), r-few (c .before .before .before .before))
 
 slice-aggregate-repair : tie.Need-slice-aggregate-repair
 slice-aggregate-repair c =
-    let t = c .before .before .before .before .before .before .before in
-    sym (length-take-le (t .before .before .before .before .before .before .before .before .before .before .before .before .before .before .before .args .code .r) (c .before .before .mates-of .result) (omega (arith, sixteen-all (c .before .before), r-few t)))
+    let t = c .before .before .before .before .before in
+    sym (length-take-le (t .before .before .before .before .before .before .before .before .before .before .before .before .before .before .before .args .code .r) (c .before .before .mates-in .result) (omega (arith, sixteen-all (c .before .before), r-few t)))
 
 repair-requires : tie.Need-repair-requires
 repair-requires c κs = search needs
@@ -105,14 +94,12 @@ same-length-4 c = search needs
 
 returns-2 : tie.Need-returns-2
 returns-2 c =
-    let t = c .before .before .before .before .before .before .before .before in
+    let t = c .before .before .before .before .before .before in
     let a = t .before .before .before .before .before .before .before .before .before .before .before .before .before .before .before .args in
     let s = t .before .before .before .before .before .before .before .send in
-    let m = c .before .before .before .mates-of in
-    let o = c .before .before .before .before .member-of in
-    let e = c .before .before .before .before .before .before .before .single .ensures in
-    let k = gathered (a .code) (good t .0) (a .slot) (below t) _ (c .before .before .before .before .before .group-view .result) (good t .1) (c .before .before .before .before .before .group-view .ensures) (o .result) (m .result)
-    (rw e at (o .ensures .0)) (rw e at (m .ensures)) in
+    let m = c .before .before .before .mates-in in
+    let e = c .before .before .before .before .before .single .ensures in
+    let k = taken (single (a .code)) (mending-of (a .code) (good t .0)) (a .slot) (below t) (s .last .1 .1 .1 .1 .1 .0) (m .result) (rw e at (m .ensures)) in
     restored-given (a .code) (a .message .now) (a .marks .now) (a .other .now) (a .codeword .now) (s .last .1 .1 .1 .1 .0) (a .word .now) (s .last .1 .1 .1 .1 .1 .0) (a .slot) (s .result) (c .repair .result)
     (s .ensures) (sym (t .before .ask .ensures) ∙ t .if1 .left) (sent t)
     (subst (λ xs. Repair-says (code-refusal (a .code)) (single (a .code)) (a .slot) xs (c .repair .result)) k (c .repair .ensures))
@@ -127,9 +114,7 @@ encode-lose-repair-spec =
     same-length-2
     returns
     single-requires
-    group-view-requires
-    member-of-requires
-    mates-of-requires
+    mates-in-requires
     cast-r
     array-share-prefix-mates
     slice-aggregate-repair
