@@ -1,4 +1,4 @@
-// The sheet that a class works on paper, of an input: r, n, k and k message symbols, over the field of thirteen.
+// The sheet that a class works on paper, of an input: the word wired or not, r, n, k and k message symbols, over the field of thirteen.
 ghost use mathlib.Core.Path.{_≡_};
 ghost use Prim.Native.Nat.{_≤_};
 ghost use lib.ListN.{length};
@@ -85,8 +85,8 @@ fn put_message(text: &mut [u8], input: &[u8], shape: Shape, message: &[u8]) -> W
     Written { status: 0, len }
 }
 
-// The code over thirteen of the numbers r, n and k.
-fn code_of(numbers: &[u8]) -> Code
+// The code over thirteen of the numbers r, n and k, and a wiring.
+fn code_of(numbers: &[u8], wiring: u32) -> Code
     requires { ⌜ length (now numbers) ≡ 16 ⌝ }
     ensures { λ x. ⌜ x .field ≡ 0 ⌝ }
 {
@@ -95,14 +95,15 @@ fn code_of(numbers: &[u8]) -> Code
         r: text::wide(numbers[0]),
         n: text::wide(numbers[1]),
         k: text::wide(numbers[2]),
+        wiring,
     }
 }
 
 // Puts the sheet of the numbers r, n, k and the message, or the sentence of their refusal.
-fn put_numbers(text: &mut [u8], input: &[u8], numbers: &[u8], count: usize) -> Written
+fn put_numbers(text: &mut [u8], input: &[u8], wiring: u32, numbers: &[u8], count: usize) -> Written
     requires { ⌜ (3 ≤ count) × (length (now numbers) ≡ 16) ⌝ }
 {
-    let code = code_of(numbers);
+    let code = code_of(numbers, wiring);
     let refusal = layout::code_refusal(code);
     if refusal != 0 {
         return refuse_code(text, input, refusal);
@@ -113,8 +114,8 @@ fn put_numbers(text: &mut [u8], input: &[u8], numbers: &[u8], count: usize) -> W
     put_message(text, input, layout::single(code), &numbers[3..count])
 }
 
-// Writes the sheet of an input in front of the text, or the sentence on what is wrong with it.
-pub fn classroom(input: &[u8], text: &mut [u8]) -> Written {
+// Writes the sheet of the numbers of an input in front of the text, or the sentence on what is wrong with them.
+fn put_input(text: &mut [u8], input: &[u8], wiring: u32) -> Written {
     let count = words::count_words(input);
     let wrong = words::first_wrong(input, count);
     if wrong < count {
@@ -135,5 +136,13 @@ pub fn classroom(input: &[u8], text: &mut [u8]) -> Written {
     }
     let mut numbers = [0u8; 16];
     words::read_numbers(input, count, &mut numbers);
-    put_numbers(text, input, &numbers, count)
+    put_numbers(text, input, wiring, &numbers, count)
+}
+
+// Writes the sheet of an input in front of the text, or the sentence on what is wrong with it.
+pub fn classroom(input: &[u8], text: &mut [u8]) -> Written {
+    if words::starts_with(input, b"wired") {
+        return put_input(text, words::behind_first(input), 1);
+    }
+    put_input(text, input, 0)
 }

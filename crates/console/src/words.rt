@@ -87,6 +87,32 @@ pub fn bytes_at(input: &[u8], i: usize) -> &[u8] {
     crate::part(input, word.start, word.end)
 }
 
+// Whether two words are the same.
+fn same(a: &[u8], b: &[u8]) -> bool {
+    if a.len() != b.len() {
+        return false;
+    }
+    let mut i: usize = 0;
+    while i < a.len() {
+        if a[i] != b[i] {
+            return false;
+        }
+        i += 1;
+    }
+    true
+}
+
+// Whether the input's first word is this one.
+pub fn starts_with(input: &[u8], word: &[u8]) -> bool {
+    same(bytes_at(input, 0), word)
+}
+
+// The input behind its first word.
+pub fn behind_first(input: &[u8]) -> &[u8] {
+    let word = word_from(input, 0);
+    crate::part(input, word.end, input.len())
+}
+
 // Whether a word has digits only.
 fn is_decimal(word: &[u8]) -> bool {
     skip(word, 0, 1, 1) == word.len()

@@ -42,11 +42,62 @@ fn put_points(text: &mut [u8], at: usize, shape: Shape, group: u32) -> usize
     next
 }
 
+// The slots of a group.
+fn put_group_slots(text: &mut [u8], at: usize, shape: Shape, group: u32) -> usize
+    requires { ⌜ Placed shape × (group < groups shape) ⌝ }
+{
+    let size = layout::size_of(shape);
+    let mut next = at;
+    let mut i: u32 = 0;
+    while i < size {
+        next = put_spaced(text, next, layout::slot_at(shape, group, i));
+        i += 1;
+    }
+    next
+}
+
+// The slots of a group by name, under wiring 1 alone: under wiring 0 they are in order.
+fn put_spread(text: &mut [u8], at: usize, shape: Shape, group: u32) -> usize
+    requires { ⌜ Placed shape × (group < groups shape) ⌝ }
+{
+    if shape.wiring != 1 {
+        return at;
+    }
+    let next = put(text, at, b" slots");
+    put_group_slots(text, next, shape, group)
+}
+
+// The points in slot order.
+fn put_slot_points(text: &mut [u8], at: usize, shape: Shape) -> usize
+    requires { ⌜ Placed shape ⌝ }
+{
+    let mut next = at;
+    let mut slot: u32 = 0;
+    while slot < shape.n {
+        next = put_spaced(text, next, wide(layout::point_of(shape, slot)));
+        slot += 1;
+    }
+    next
+}
+
+// The line of the points along the slots, under wiring 1 alone: under wiring 0 the groups' lines have that order.
+fn put_along(text: &mut [u8], at: usize, shape: Shape) -> usize
+    requires { ⌜ Placed shape ⌝ }
+{
+    if shape.wiring != 1 {
+        return at;
+    }
+    let mut next = put(text, at, b"points");
+    next = put_slot_points(text, next, shape);
+    end_line(text, next)
+}
+
 // The line of a group.
 fn put_group(text: &mut [u8], at: usize, shape: Shape, group: u32) -> usize
     requires { ⌜ Placed shape × (group < groups shape) ⌝ }
 {
     let mut next = put_named(text, at, b"group", group);
+    next = put_spread(text, next, shape, group);
     next = put(text, next, b" points");
     next = put_points(text, next, shape, group);
     end_line(text, next)
@@ -140,14 +191,15 @@ fn put_slots(text: &mut [u8], at: usize, shape: Shape) -> usize
     next
 }
 
-// The lines of the powers and of the groups.
+// The lines of the powers, of the groups and of the points.
 fn put_layout(text: &mut [u8], shape: Shape) -> usize
     requires { ⌜ Placed shape ⌝ }
 {
     let mut next = put(text, 0, b"powers");
     next = put_powers(text, next);
     next = end_line(text, next);
-    put_groups(text, next, shape)
+    next = put_groups(text, next, shape);
+    put_along(text, next, shape)
 }
 
 // The lines of a message's encoding polynomial and of its codeword.
