@@ -19,7 +19,6 @@ pub mod Parity
 pub mod Repairing
 pub mod Passing
 pub mod Keeping
-pub mod Parts
 pub mod Lone
 pub mod Lawful
 pub mod Monomial

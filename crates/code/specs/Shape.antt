@@ -1,6 +1,6 @@
 -- Where the symbols stand: repair groups, members, slots, evaluation points. Assumes nothing: these are definitions.
 -- The paper's words: a slot is a coordinate of the codeword, a group a repair group, a point an evaluation point; the mates of a slot are
--- the other members of its repair group.
+-- the other members of its repair group; the wiring is how the groups are placed, 1 an interleaved placement.
 -- Whole groups have size members. Where n is not a multiple of size the last group is short: the places behind the last slot,
 -- n to room - 1, are no slots, and every codeword is 0 there (a shortened code).
 --   size, groups, room, missing    members of a whole group; groups; places of whole groups; those that are no slots

@@ -1,7 +1,7 @@
 // A code by its numbers: the public record, the shape that all families of codes share, and the answer of a call.
 
-// The code record of the paper: the field, the locality r, the length n, the dimension k, and the wiring: how slots fall to repair
-// groups, 0 one group after the other, 1 spread over the shelves.
+// The code record of the paper: the field, the locality r, the length n, the dimension k, and the wiring, how the repair groups are
+// placed: 0 one after the other, 1 interleaved.
 pub struct Code {
     pub field: u32,
     pub r: u32,

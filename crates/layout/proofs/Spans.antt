@@ -3,15 +3,15 @@
 --   member-apart         different members stand in different places
 --   member-in-span       every member stands in it
 --   span-room            it lies within the places, and within the word where groups are whole
-use mathlib.Core.Path.{_≡_, refl, ap}
+use mathlib.Core.Path.{_≡_, ap}
 use mathlib.Core.Bool.{Bool, true, false, cond}
-use Prim.Native.Nat.{ℕ, suc, _+_, _*_, _-_, _≤_, _<_}
+use Prim.Native.Nat.{ℕ, _+_, _*_, _-_, _≤_, _<_}
 use native.Mathlib.Nat.{mul-le-mul-right}
 use native.Mathlib.Omega.{arith}
 use Rattle.code.specs.declared.Shape.{Shape}
 use Rattle.code.specs.Shape.{size, groups, room, whole, wired, first, step, slot-at}
 use Rattle.code.specs.Laws.{Placed}
-use Rattle.code.proofs.Places.{size-least, groups-least, slot-below, slot-at-injective, whole-room}
+use Rattle.code.proofs.Places.{size-least, groups-least, slot-below, slot-at-injective}
 use Rattle.layout.specs.Step.{span}
 
 module _ (s : Shape) (P : Placed s) where

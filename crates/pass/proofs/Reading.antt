@@ -2,12 +2,12 @@
 --   readable s ws ms p                 == slot p is not read, or its symbol is below q
 --   none-read, kept-read               a group that is not mended, and one that is
 --   reads-not, reads-all               a group with a symbol that is too large, and none
-use mathlib.Core.Path.{_≡_, refl, sym, ap, ap₂, subst, _∙_}
+use mathlib.Core.Path.{_≡_, refl, sym, ap, subst, _∙_}
 use mathlib.Core.Bool.{Bool, true, false, not, _&&_, _||_}
 use mathlib.Core.List.{List}
 use Prim.Native.Nat.{ℕ, _<_}
 use native.Mathlib.Omega.{arith}
-use lib.Dec.{T, ltb, eqb}
+use lib.Dec.{T, ltb}
 use Rattle.algebra.specs.Sequence.{at, every}
 use Rattle.algebra.proofs.Booleans.{so, yes-true, no-false}
 use Rattle.algebra.proofs.Every.{every-at, every-intro, every-same}

@@ -11,7 +11,7 @@ use Rattle.algebra.specs.Sequence.{at}
 use Rattle.code.specs.Shape.{size, group, first}
 use Rattle.code.proofs.Questions.{ask-no, ask-yes, or-ask-on}
 use Rattle.code.proofs.Places.{n-room, group-below}
-use Rattle.code.proofs.Parts.{length-part, group-room, part-of}
+use Rattle.view.proofs.Parts.{length-part, group-room, part-of}
 use Rattle.view.specs.View.{view-refusal, part}
 use Rattle.view.specs.Promise.{View-holds, Wired-no-view, Promises}
 

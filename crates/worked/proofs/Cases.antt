@@ -21,7 +21,7 @@ use Rattle.code.specs.Pass.{kept-from, kept-places, sources, mendable, mends, m
 use Rattle.code.specs.Family.{single, field-known, r-fits, n-fits, k-fits, wiring-fits, code-refusal}
 use Rattle.code.specs.Laws.{Family}
 use Rattle.code.specs.Verdict.{Verdict}
-use Rattle.code.specs.Promise.{Accepted, Message}
+use Rattle.code.specs.Promise.{Accepted}
 use Rattle.code.proofs.Accepted.{plain-of}
 use Rattle.words.specs.Word.{code-word}
 use Rattle.worked.specs.Case.{N, ones, word, W, wired-message, wired-word, B, byte-message, byte-word, Cases-hold}
@@ -219,6 +219,8 @@ cases-hold =
     & (refl, refl)
     & (refl, refl)
     & (refl, refl)
+    & (refl, refl)
+    & (refl, refl, refl, refl)
     & (refl, refl, refl)
     & (refl, refl, refl)
     & (refl, refl, refl)

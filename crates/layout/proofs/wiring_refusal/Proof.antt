@@ -1,6 +1,5 @@
 use borrow.Author.Needs.{needs}
 use mathlib.Core.Path.{refl}
-use native.Mathlib.Omega.{arith}
 use Rattle.code.specs.Shape.{size}
 use Rattle.code.specs.Family.{single}
 use Rattle.code.proofs.Questions.{ask-no, ask-yes}

@@ -7,7 +7,7 @@ use lib.Dec.{ltb}
 use borrow.Author.Tests.{eq-eqb, ne-eqb}
 use Rattle.algebra.specs.Sequence.{at, count, every}
 use Rattle.field.specs.Field.{q}
-use Rattle.code.specs.Shape.{size, first, step, slot-at}
+use Rattle.code.specs.Shape.{size, first, slot-at}
 use Rattle.code.specs.Decoding.{lost}
 use Rattle.code.specs.Erasure.{group-losses}
 use Rattle.code.proofs.Places.{slot-below, whole-room}

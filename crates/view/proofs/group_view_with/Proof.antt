@@ -7,7 +7,7 @@ use lib.ListN.{take, drop}
 use borrow.Author.Tests.{eq-eqb, ne-eqb}
 use Rattle.code.specs.Shape.{size, wired, group, first}
 use Rattle.code.specs.Laws.{Mending}
-use Rattle.code.proofs.Parts.{group-room}
+use Rattle.view.proofs.Parts.{group-room}
 use Rattle.view.specs.View.{view-refusal, part}
 use Rattle.view.proofs.Refusals.{View-passed, view-passed}
 use Rattle.view.proofs.group_view_with.Statement.{statement}
