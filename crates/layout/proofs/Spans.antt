@@ -2,16 +2,17 @@
 --   step-some            members of a group do not stand in one place
 --   member-apart         different members stand in different places
 --   member-in-span       every member stands in it
---   span-room            it lies within the places, and within the word where groups are whole
+--   span-room, span-byte it lies within the places, and is at most 255
 use mathlib.Core.Path.{_≡_, ap}
 use mathlib.Core.Bool.{Bool, true, false, cond}
 use Prim.Native.Nat.{ℕ, _+_, _*_, _-_, _≤_, _<_}
 use native.Mathlib.Nat.{mul-le-mul-right}
 use native.Mathlib.Omega.{arith}
 use Rattle.code.specs.declared.Shape.{Shape}
-use Rattle.code.specs.Shape.{size, groups, room, whole, wired, first, step, slot-at}
+use Rattle.code.specs.Shape.{size, groups, room, wired, first, step, slot-at}
 use Rattle.code.specs.Laws.{Placed}
 use Rattle.code.proofs.Places.{size-least, groups-least, slot-below, slot-at-injective}
+use Rattle.code.proofs.Bounds.{room-byte}
 use Rattle.layout.specs.Step.{span}
 
 module _ (s : Shape) (P : Placed s) where
@@ -40,3 +41,6 @@ module _ (s : Shape) (P : Placed s) where
       let l : size s - 1 < size s = omega (arith, size-least s P) in
       let m : first s j + (size s - 1) * step s < room s = slot-below s P j (size s - 1) h l in
       omega arith
+
+  pub span-byte : span s ≤ 255
+  span-byte = omega (arith, span-room 0 (groups-least s P), room-byte s P)

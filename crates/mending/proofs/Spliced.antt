@@ -1,7 +1,7 @@
 -- A group's span that is lent out of the word or the marks and comes back, group after group. Assumes nothing.
 --   Upto s f j a z      == the buffer a has become z: the slots of the groups before j have f's values, the others are unchanged
 --   upto-none, upto-all    no group yet; all of them
---   length-lent, lent-span    a group's span, lent out of a buffer
+--   span-within, length-lent, lent-span    a group's span, lent out of a buffer
 --   span-left           that of the next group is as it came, at its members
 --   upto-more           one group more
 use mathlib.Core.Path.{_≡_, refl, sym, ap, _∙_}
@@ -40,7 +40,7 @@ module _ (s : Shape) (f : ℕ → ℕ) where
 
 -- the span of group j is the k entries from m on
 module _ (s : Shape) (M : Mending s) (j m k : ℕ) (b : j < groups s) (e : first s j ≡ m) (d : span s ≡ k) where
-  span-within : m + k ≤ s .n
+  pub span-within : m + k ≤ s .n
   span-within = omega (arith, span-room s (M .placed) j b, whole-room s (M .placed) (M .whole-groups))
 
   slot : (i : ℕ) → slot-at s j i ≡ m + i * step s

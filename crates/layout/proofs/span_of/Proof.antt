@@ -3,10 +3,9 @@ use mathlib.Core.Path.{_≡_, ap₂}
 use Prim.Native.Nat.{_+_, _*_, _-_, _≤_}
 use native.Mathlib.Omega.{arith}
 use Rattle.code.specs.Shape.{size, step}
-use Rattle.code.proofs.Places.{size-least, groups-least}
-use Rattle.code.proofs.Bounds.{room-byte}
+use Rattle.code.proofs.Places.{size-least}
 use Rattle.layout.specs.Step.{span}
-use Rattle.layout.proofs.Spans.{span-room}
+use Rattle.layout.proofs.Spans.{span-byte}
 use Rattle.layout.proofs.span_of.Statement.{statement}
 use Rattle.layout.proofs.span_of.Tie as tie
 
@@ -27,7 +26,7 @@ product c =
     let e = c .before .before in
     let s = e .args .shape in (
       ap₂ (λ a b. (a - 1) * b) (c .before .size-of .ensures) (c .step-of .ensures),
-      omega (arith, span-room s (e .pre) 0 (groups-least s (e .pre)), room-byte s (e .pre)),
+      span-byte s (e .pre),
     )
 
 mul-result : tie.Need-mul-result

@@ -8,10 +8,9 @@ use Rattle.algebra.proofs.Tabulate.{at-tabulate}
 use Rattle.algebra.proofs.Filling.{Filled, filled-none, filled-more}
 use Rattle.code.specs.declared.Shape.{Shape}
 use Rattle.code.specs.Shape.{step}
-use Rattle.code.proofs.Bounds.{r-most, n-most}
-use Rattle.code.proofs.Places.{groups-least, whole-room}
-use Rattle.layout.specs.Step.{mate-member, span}
-use Rattle.layout.proofs.Spans.{member-in-span, span-room}
+use Rattle.code.proofs.Bounds.{r-most}
+use Rattle.layout.specs.Step.{mate-member}
+use Rattle.layout.proofs.Spans.{member-in-span, span-byte}
 use Rattle.weights.proofs.Sixteen.{sixteen-of}
 use Rattle.mending.specs.Step.{part-mates}
 use Rattle.mending.proofs.Members.{mate-within, length-mates-part}
@@ -48,7 +47,7 @@ mate-below c =
     let l = member-in-span h (M .placed) m (mate-within h (M .one) (s .args .member) (c .before .before .loop .i) (c .before .loop-test .taken)) in
     let e : c .mate-member .result * c .before .before .before .step-of .result ≡ m * step h = ap₂ (λ a b. a * b) (c .mate-member .ensures) (c .before .before .before .step-of .ensures) in (
       omega (arith, s .pre .2),
-      omega (arith, s .pre .2, span-room h (M .placed) 0 (groups-least h (M .placed)), whole-room h (M .placed) (M .whole-groups), n-most h (M .placed)),
+      omega (arith, s .pre .2, span-byte h (M .placed)),
     )
 
 mul-symbols : tie.Need-mul-symbols Inv-loop μ-loop

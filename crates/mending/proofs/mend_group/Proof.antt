@@ -8,10 +8,10 @@ use Rattle.algebra.specs.Sequence.{at, count}
 use Rattle.code.specs.Shape.{size, step, slot-at}
 use Rattle.code.specs.Decoding.{lost}
 use Rattle.code.specs.Repair.{weights, repaired}
-use Rattle.code.proofs.Places.{groups-least, slot-below, whole-room}
-use Rattle.code.proofs.Bounds.{r-most, n-most}
+use Rattle.code.proofs.Places.{slot-below, whole-room}
+use Rattle.code.proofs.Bounds.{r-most}
 use Rattle.layout.specs.Step.{span}
-use Rattle.layout.proofs.Spans.{member-in-span, span-room}
+use Rattle.layout.proofs.Spans.{member-in-span, span-byte}
 use Rattle.weights.proofs.Sixteen.{length-sixteen}
 use Rattle.mending.specs.Step.{lone, part-mates, Members-set, instead}
 use Rattle.mending.proofs.Mended.{same-part, mended-part, mended-symbol, lone-count}
@@ -27,20 +27,13 @@ cast-size c = omega (arith, c .size-of .ensures, c .before .before .before .pre 
 step-of-requires : tie.Need-step-of-requires
 step-of-requires c κs = c .before .before .before .pre .2 .placed
 
--- the members stand in the span, which is small
+-- the members stand in the span
 inside : (c : tie.After-step-of) → let s = c .before .before .before .before in (i : ℕ) → i < c .before .size-of .result → i * c .step-of .result < span (s .args .shape)
 inside c i l =
     let s = c .before .before .before .before in
     let h = s .args .shape in
     let e : i * c .step-of .result ≡ i * step h = ap (λ t. i * t) (c .step-of .ensures) in
     omega (arith, member-in-span h (s .pre .2 .placed) i (omega (arith, c .before .size-of .ensures)))
-
-small : (c : tie.After-slice-known2) → span (c .before .before .args .shape) ≤ 255
-small c =
-    let s = c .before .before in
-    let h = s .args .shape in
-    let M = s .pre .2 in
-    omega (arith, span-room h (M .placed) 0 (groups-least h (M .placed)), whole-room h (M .placed) (M .whole-groups), n-most h (M .placed))
 
 cast-step : tie.Need-cast-step
 cast-step c = search needs
@@ -96,7 +89,7 @@ member-within c =
       omega (arith, i .ensures .0, c .before .before .before .before .before .before .size-of .ensures),
       s .pre .2 .placed .size-most,
       inside (c .before .before .before .before .before) (i .result) (i .ensures .0),
-      small (c .before .before .before .before .before .before .before),
+      span-byte (s .args .shape) (s .pre .2 .placed),
     )
 
 slot-within : (c : tie.After-slot-at) → c .slot-at .result < c .before .before .before .before .before .before .before .before .before .before .args .shape .n

@@ -10,12 +10,10 @@ use Rattle.algebra.proofs.Splicing.{splice}
 use Rattle.code.specs.declared.Shape.{Shape}
 use Rattle.code.specs.Shape.{groups}
 use Rattle.code.specs.Pass.{mendable, passed, marks-after, mended}
-use Rattle.code.proofs.Places.{whole-room}
 use Rattle.code.proofs.Bounds.{n-most, groups-most}
 use Rattle.code.proofs.Passing.{passed-at, mark-at}
 use Rattle.layout.specs.Step.{span}
-use Rattle.layout.proofs.Spans.{span-room}
-use Rattle.mending.proofs.Spliced.{Upto, upto-none, upto-all, length-lent}
+use Rattle.mending.proofs.Spliced.{Upto, upto-none, upto-all, span-within, length-lent}
 use Rattle.mending.proofs.Groups.{word-step, marks-step, number-step}
 use Rattle.mending.proofs.mend_groups.Statement.{statement}
 use Rattle.mending.proofs.mend_groups.Tie as tie
@@ -63,8 +61,9 @@ within : (c : tie.After-first-of Inv-loop μ-loop) → let s = c .before .before
 within c =
     let s = c .before .before .before .before .before .before .before in
     let h = s .args .shape in
+    let k = c .before .before .before .before .span-of in
     let M = s .pre .2 in (
-      omega (arith, c .first-of .ensures, c .before .before .before .before .span-of .ensures, span-room h (M .placed) (c .before .before .loop .j) (inside (c .before)), whole-room h (M .placed) (M .whole-groups)),
+      span-within h M (c .before .before .loop .j) (c .first-of .result) (k .result) (inside (c .before)) (sym (c .first-of .ensures)) (sym (k .ensures)),
       n-most h (M .placed),
     )
 

@@ -3,12 +3,10 @@ use mathlib.Core.Path.{_≡_, sym, ap, _∙_}
 use Prim.Native.Nat.{_+_, _-_, _≤_}
 use native.Mathlib.Omega.{arith}
 use Rattle.code.specs.Shape.{first}
-use Rattle.code.proofs.Places.{whole-room}
 use Rattle.code.proofs.Bounds.{n-most}
 use Rattle.layout.specs.Step.{span}
-use Rattle.layout.proofs.Spans.{span-room}
 use Rattle.weights.specs.Weights.{sixteen}
-use Rattle.mending.proofs.Spliced.{length-lent}
+use Rattle.mending.proofs.Spliced.{span-within, length-lent}
 use Rattle.promise.proofs.Gathering.{gathered}
 use Rattle.promise.proofs.mates_in.Statement.{statement}
 use Rattle.promise.proofs.mates_in.Tie as tie
@@ -36,7 +34,7 @@ within c =
     let h = s .args .shape in
     let M = s .pre .0 in
     let g = c .before .before .group-of in (
-      omega (arith, c .before .first-of .ensures, c .span-of .ensures, span-room h (M .placed) (g .result) (g .ensures .1), whole-room h (M .placed) (M .whole-groups)),
+      span-within h M (g .result) (c .before .first-of .result) (c .span-of .result) (g .ensures .1) (sym (c .before .first-of .ensures)) (sym (c .span-of .ensures)),
       n-most h (M .placed),
     )
 
