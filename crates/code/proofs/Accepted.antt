@@ -1,7 +1,7 @@
 -- What questions 1 to 4 and 17 say of an accepted code: its shape is a plain family. Assumes nothing.
 --   Good s         the facts behind refusal 0; good-of: an accepted code's shape has them
 --   groups-whole, room-whole, whole-of    n is a multiple of the group size
---   placed-of, k-of                       what follows of places and of k
+--   whole-good, room-good, k-of, placed-of    what follows of places and of k
 --   plain-of, decodable-of, mending-of, mending    what an accepted code's shape is
 --   families       Families of specs/Promise.antt
 use mathlib.Core.Path.{_≡_, refl, sym, ap, _∙_}
@@ -99,7 +99,7 @@ module _ (s : Shape) (some : 1 ≤ size s) (multiple : s .n % size s ≡ 0) wher
   whole-of = eq-eqb (room s - s .n) 0 (omega (arith, room-whole))
 
 module _ (s : Shape) (G : Good s) where
-  pub size-some : 1 ≤ size s
+  size-some : 1 ≤ size s
   unfolding size
   size-some = omega (arith, G .r-least)
 

@@ -23,7 +23,8 @@ use Rattle.code.specs.Laws.{Family}
 use Rattle.code.specs.Verdict.{Verdict}
 use Rattle.code.specs.Promise.{Accepted}
 use Rattle.code.proofs.Accepted.{plain-of}
-use Rattle.words.specs.Word.{code-word}
+use Rattle.words.specs.Word.{word-bytes, bytes, word-at, code-word, kept-word, lost-word, end-word, slot-word, word-symbol, word-mark}
+use Rattle.sheet.specs.Sheet.{sheet-words, middle-word, code-in, symbols-in, marks-in}
 use Rattle.worked.specs.Case.{N, ones, word, W, wired-message, wired-word, B, byte-message, byte-word, Cases-hold}
 use Rattle.worked.proofs.Deciding.{covered, within, past, foreign, undecided}
 
@@ -161,7 +162,7 @@ _&_ : {A B : Type 0} → A → B → A × B
 a & b = (a, b)
 
 pub cases-hold : Cases-hold
-unfolding Cases-hold tabulate-from tabulate count every all-below q γ xor-from plus minus doubled times-from times power inverse dotted ask ceiling size groups room missing whole wired field-known r-fits n-fits k-fits wiring-fits code-refusal group member first step slot-at members point-at point exponent whole-basis basis degree most-shared is-message value-from value symbol encoded lost lost-number group-losses stands first-from first-broken guarantee grade others-from others mates weight-over weights-over restored weights repaired symbols-of kept-from kept-places sources mendable mends mend passed marks-after mended code-word
+unfolding Cases-hold tabulate-from tabulate count every all-below q γ xor-from plus minus doubled times-from times power inverse dotted ask ceiling size groups room missing whole wired field-known r-fits n-fits k-fits wiring-fits code-refusal group member first step slot-at members point-at point exponent whole-basis basis degree most-shared is-message value-from value symbol encoded lost lost-number group-losses stands first-from first-broken guarantee grade others-from others mates weight-over weights-over restored weights repaired symbols-of kept-from kept-places sources mendable mends mend passed marks-after mended word-bytes bytes word-at code-word kept-word lost-word end-word slot-word word-symbol word-mark sheet-words middle-word code-in symbols-in marks-in
 cases-hold =
     (refl, refl)
     & (refl, refl, refl)
@@ -221,8 +222,8 @@ cases-hold =
     & (refl, refl)
     & (refl, refl)
     & (refl, refl, refl, refl)
-    & (refl, refl, refl)
-    & (refl, refl, refl)
-    & (refl, refl, refl)
+    & (refl, refl, refl, refl, refl)
+    & (refl, refl, refl, refl, refl)
+    & (refl, refl, refl, refl, refl)
     & refl
     & tt

@@ -19,7 +19,8 @@ use Rattle.code.specs.Pass.{passed, marks-after, mended}
 use Rattle.code.specs.Family.{code-of, single, code-refusal}
 use Rattle.code.specs.Verdict.{Verdict}
 use Rattle.code.specs.Promise.{Accepted, Message}
-use Rattle.words.specs.Word.{code-word, word-code}
+use Rattle.words.specs.Word.{bytes}
+use Rattle.sheet.specs.Sheet.{sheet-words, code-in, symbols-in, marks-in}
 
 pub data Case : Type 0 where
   -- questions 1 to 4 and 17 end with this number: 0 for an accepted code
@@ -37,8 +38,8 @@ pub data Case : Type 0 where
   breaks : (c : Code) (marks : List ℕ) (group : ℕ) → Case
   -- the local pass: the word and the marks after it, and how many groups it repairs
   passes : (c : Code) (word marks after left : List ℕ) (number : ℕ) → Case
-  -- the code word of a sheet, there and back
-  spells : (c : Code) (word : ℕ) → Case
+  -- the words of a stripe's sheet, and the symbols that are read back
+  sheets : (c : Code) (word marks words symbols : List ℕ) → Case
   multiplies : (field a b product : ℕ) → Case
 
 abbrev pub Holds : Case → Type 0
@@ -55,7 +56,8 @@ Holds (graded c ms g) = Accepted c × (grade (single c) ms ≡ g)
 Holds (breaks c ms g) = Accepted c × (first-broken (single c) ms ≡ g)
 Holds (passes c ws ms vs ns n) =
     Accepted c × (passed (single c) ws ms ≡ vs) × (marks-after (single c) ms ≡ ns) × (mended (single c) ms ≡ n)
-Holds (spells c w) = Accepted c × (code-word c ≡ w) × (word-code w ≡ c)
+Holds (sheets c ws ms vs xs) =
+    Accepted c × (sheet-words c ws ms ≡ vs) × (code-in (bytes vs) ≡ c) × (symbols-in (bytes vs) ≡ xs) × (marks-in (bytes vs) ≡ ms)
 Holds (multiplies f a b p) = times f a b ≡ p
 
 -- the sheet's code N, and its codeword of 1 1 1 1
@@ -147,9 +149,15 @@ cases =
     ∷ graded N (0 ∷ 0 ∷ 0 ∷ 1 ∷ 1 ∷ 1 ∷ 0 ∷ 0 ∷ 0 ∷ []) 2
     ∷ graded W (0 ∷ 0 ∷ 0 ∷ 1 ∷ 1 ∷ 1 ∷ 0 ∷ 0 ∷ 0 ∷ []) 1
     ∷ passes W (4 ∷ 1 ∷ 0 ∷ 255 ∷ 255 ∷ 255 ∷ 7 ∷ 2 ∷ 0 ∷ []) (0 ∷ 0 ∷ 0 ∷ 1 ∷ 1 ∷ 1 ∷ 0 ∷ 0 ∷ 0 ∷ []) (4 ∷ 1 ∷ 0 ∷ 8 ∷ 11 ∷ 0 ∷ 7 ∷ 2 ∷ 0 ∷ []) (0 ∷ 0 ∷ 0 ∷ 0 ∷ 0 ∷ 0 ∷ 0 ∷ 0 ∷ 0 ∷ []) 3
-    ∷ spells N 0x10020904
-    ∷ spells W 0x18020904
-    ∷ spells B 0x19020905
+    ∷ sheets N (255 ∷ 255 ∷ 255 ∷ 255 ∷ 11 ∷ 2 ∷ 0 ∷ 0 ∷ 0 ∷ []) (1 ∷ 1 ∷ 1 ∷ 1 ∷ 0 ∷ 0 ∷ 0 ∷ 0 ∷ 0 ∷ [])
+    (0x10020904 ∷ 0x30000000 ∷ 0x30000100 ∷ 0x30000200 ∷ 0x30000300 ∷ 0x2000040b ∷ 0x20000502 ∷ 0x20000600 ∷ 0x20000700 ∷ 0x20000800 ∷ 0x40000009 ∷ [])
+    (0 ∷ 0 ∷ 0 ∷ 0 ∷ 11 ∷ 2 ∷ 0 ∷ 0 ∷ 0 ∷ [])
+    ∷ sheets W (255 ∷ 2 ∷ 3 ∷ 255 ∷ 8 ∷ 0 ∷ 6 ∷ 0 ∷ 4 ∷ []) (1 ∷ 0 ∷ 0 ∷ 1 ∷ 0 ∷ 0 ∷ 0 ∷ 0 ∷ 0 ∷ [])
+    (0x18020904 ∷ 0x30000000 ∷ 0x20000102 ∷ 0x20000203 ∷ 0x30000300 ∷ 0x20000408 ∷ 0x20000500 ∷ 0x20000606 ∷ 0x20000700 ∷ 0x20000804 ∷ 0x40000009 ∷ [])
+    (0 ∷ 2 ∷ 3 ∷ 0 ∷ 8 ∷ 0 ∷ 6 ∷ 0 ∷ 4 ∷ [])
+    ∷ sheets B (251 ∷ 255 ∷ 97 ∷ 51 ∷ 255 ∷ 1 ∷ 53 ∷ 176 ∷ 125 ∷ []) (0 ∷ 1 ∷ 0 ∷ 0 ∷ 1 ∷ 0 ∷ 0 ∷ 0 ∷ 0 ∷ [])
+    (0x19020905 ∷ 0x200000fb ∷ 0x30000100 ∷ 0x20000261 ∷ 0x20000333 ∷ 0x30000400 ∷ 0x20000501 ∷ 0x20000635 ∷ 0x200007b0 ∷ 0x2000087d ∷ 0x40000009 ∷ [])
+    (251 ∷ 0 ∷ 97 ∷ 51 ∷ 0 ∷ 1 ∷ 53 ∷ 176 ∷ 125 ∷ [])
     ∷ multiplies 1 128 2 29
     ∷ []
 
