@@ -24,7 +24,7 @@ use Rattle.code.specs.declared.Shape.{Shape}
 use Rattle.code.specs.Shape.{size, groups, room, whole, group, member, members, slot-at, others, mates}
 use Rattle.code.specs.Repair.{symbols-of}
 use Rattle.code.specs.Laws.{Placed, Mending}
-use Rattle.code.proofs.Places.{n-room, group-below, member-below, slot-below, slot-group-member, slot-at-later, whole-room}
+use Rattle.code.proofs.Places.{n-room, group-below, member-below, slot-group-member, slot-at-later, slot-inside}
 use Rattle.code.proofs.Fronts.{each-of-index, in-take, distinct-take}
 use Rattle.code.proofs.Others.{length-others, others-distinct, others-before, others-after}
 
@@ -60,7 +60,7 @@ module _ (s : Shape) (P : Placed s) where
     unfolding members
     members-whole h w =
         count-same (λ i. ltb (slot-at s j i) (s .n)) (λ i. true) (size s)
-        (λ i l. yes-true (ltb (slot-at s j i) (s .n)) (lt→ltb (slot-at s j i) (s .n) (omega (arith, slot-below s P j i h l, whole-room s P w))))
+        (λ i l. yes-true (ltb (slot-at s j i) (s .n)) (lt→ltb (slot-at s j i) (s .n) (slot-inside s P w j i h l)))
         ∙ count-all (size s)
 
   module _ (p : ℕ) (inside : p < s .n) where

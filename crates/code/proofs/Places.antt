@@ -4,7 +4,7 @@
 --   group-below, member-below, slot-below          a place's group and member, and back
 --   slot-group-member, group-slot-at, member-slot-at
 --   same-place, slot-at-later, slot-at-injective   one place by its group and member; the members in order
---   whole-room, remainder                          whole groups: every place is a slot; a short one: how many are
+--   whole-room, slot-inside, remainder             whole groups: every place is a slot; a short one: how many are
 use mathlib.Core.Path.{_≡_, sym, ap, ap₂, _∙_}
 use mathlib.Core.Logic.{_≢_}
 use mathlib.Core.Bool.{Bool, true, false, cond}
@@ -128,6 +128,10 @@ module _ (s : Shape) (P : Placed s) where
   pub whole-room : whole s ≡ true → room s ≡ s .n
   unfolding whole missing
   whole-room e = omega (arith, eqb→eq (room s - s .n) 0 (so e), n-room)
+
+  -- so every member of a group is a slot
+  pub slot-inside : whole s ≡ true → (j i : ℕ) → j < groups s → i < size s → slot-at s j i < s .n
+  slot-inside e j i g h = omega (arith, slot-below j i g h, whole-room e)
 
   -- a short last group has the remainder
   pub remainder : whole s ≡ false → s .n % size s + missing s ≡ size s

@@ -17,7 +17,7 @@ use Rattle.code.specs.Shape.{size, groups, group, member, first, step, slot-at}
 use Rattle.code.specs.Codeword.{symbol, encoded}
 use Rattle.code.specs.Laws.{Placed, Plain}
 use Rattle.code.specs.declared.Shape.{Shape}
-use Rattle.code.proofs.Places.{n-room, whole-room, group-below, member-below, slot-below, slot-group-member, group-slot-at, slot-at-later}
+use Rattle.code.proofs.Places.{n-room, group-below, member-below, slot-group-member, group-slot-at, slot-at-later, slot-inside}
 use Rattle.layout.proofs.Numbers.{slot-is}
 use Rattle.local_code.specs.Step.{Group-symbols}
 use Rattle.encode.specs.Step.{Group-written}
@@ -28,7 +28,7 @@ module _ (s : Shape) (L : Plain s) (j : ℕ) (g : j < groups s) (f t : ℕ) (e :
   P = L .family .placed
 
   pub slot-room : (i : ℕ) → i < size s → f + i * t < s .n
-  slot-room i h = omega (arith, slot-is s j i f t e d, slot-below s P j i g h, whole-room s P (L .whole-groups))
+  slot-room i h = omega (arith, slot-is s j i f t e d, slot-inside s P (L .whole-groups) j i g h)
 
   pub slots-apart : (i o : ℕ) → i < o → f + i * t ≢ f + o * t
   slots-apart i o h x = omega (arith, slot-is s j i f t e d, slot-is s j o f t e d, slot-at-later s P j i o h)

@@ -17,7 +17,7 @@ use Rattle.code.specs.Shape.{size, groups, whole, first, step, slot-at}
 use Rattle.code.specs.Decoding.{lost}
 use Rattle.code.specs.Erasure.{group-losses, stands, first-from, first-broken}
 use Rattle.code.specs.Laws.{Placed}
-use Rattle.code.proofs.Places.{slot-below, whole-room}
+use Rattle.code.proofs.Places.{slot-inside}
 use Rattle.layout.proofs.Numbers.{slot-is}
 
 unfoldable pub member-lost : Shape → (marks : List ℕ) → (group member : ℕ) → Bool
@@ -28,7 +28,7 @@ losses-to s ms j i = count (member-lost s ms j) i
 
 pub member-slot : (s : Shape) → Placed s → whole s ≡ true → (j i f t : ℕ) → j < groups s → i < size s → f ≡ first s j → t ≡ step s
     → f + i * t < s .n
-member-slot s P w j i f t h l e d = omega (arith, slot-is s j i f t e d, slot-below s P j i h l, whole-room s P w)
+member-slot s P w j i f t h l e d = omega (arith, slot-is s j i f t e d, slot-inside s P w j i h l)
 
 -- one member more, in slot p
 module _ (s : Shape) (ms : List ℕ) (j i p x : ℕ) (e : p ≡ slot-at s j i) (h : x ≡ losses-to s ms j i) where

@@ -14,12 +14,13 @@ use Rattle.code.specs.Shape.{size, groups, first, step, slot-at, mates}
 use Rattle.code.specs.Repair.{repaired, symbols-of}
 use Rattle.code.specs.Pass.{mendable, mends, mend}
 use Rattle.code.specs.Laws.{Mending}
-use Rattle.code.proofs.Places.{slot-below, whole-room}
+use Rattle.code.proofs.Places.{slot-inside}
 use Rattle.code.proofs.Passing.{passed-at, mark-at}
 use Rattle.code.proofs.Lone.{mends-one, mend-lone}
 use Rattle.layout.specs.Step.{span}
-use Rattle.mending.specs.Step.{part-mates, instead, Group-mended}
-use Rattle.mending.proofs.Members.{Of-span, symbols-part, lone-part, mends-part}
+use Rattle.layout.proofs.Spans.{Of-span}
+use Rattle.mending.specs.Step.{lone, part-mates, instead, Group-mended}
+use Rattle.mending.proofs.Members.{symbols-part, lone-part, mends-part}
 use Rattle.mending.proofs.Spliced.{Upto, span-left, upto-more}
 
 -- what the pass mends is what repair answers
@@ -38,17 +39,20 @@ module _ (s : Shape) (M : Mending s) (j : ℕ) (b : j < groups s) (ws ms zp np :
       let p : ℕ = slot-at s j i in
       ap₂ (λ t y. cond t y (at zp (i * step s))) (mends-part s M j ms np marks-part b i l) (ap (repaired s p) (symbols-part s M j i b l ws zp word-part))
       ∙ ap (λ y. cond (mends s ms p) (repaired s p (symbols-of ws (mates s p))) y) (word-part i l)
-      ∙ repaired-at s M ws ms p (omega (arith, slot-below s (M .placed) j i b l, whole-room s (M .placed) (M .whole-groups)))
+      ∙ repaired-at s M ws ms p (slot-inside s (M .placed) (M .whole-groups) j i b l)
 
   marks-entry : (i : ℕ) → i < size s → instead s np (λ i. 0) np i ≡ mark-at s ms (slot-at s j i)
   marks-entry i l = ap₂ (λ t y. cond t 0 y) (mends-part s M j ms np marks-part b i l) (marks-part i l)
 
-  counted : (x : ℕ) → (n : (t : Bool) → mendable s ms j ≡ t → x ≡ cond t 1 0) → count (mendable s ms) j + x ≡ count (mendable s ms) (j + 1)
-  counted x n = go (mendable s ms j) refl
+  one-more : (x : ℕ) → x ≡ cond (lone s np) 1 0 → count (mendable s ms) j + x ≡ count (mendable s ms) (j + 1)
+  one-more x n = go (mendable s ms j) refl
     where
+      is : (t : Bool) → mendable s ms j ≡ t → x ≡ cond t 1 0
+      is t y = n ∙ ap (λ b. cond b 1 0) (lone-part s M j ms np marks-part ∙ y)
+
       go : (t : Bool) → mendable s ms j ≡ t → count (mendable s ms) j + x ≡ count (mendable s ms) (j + 1)
-      go true y = omega (arith, n true y, count-yes (mendable s ms) j y)
-      go false y = omega (arith, n false y, count-no (mendable s ms) j y)
+      go true y = omega (arith, is true y, count-yes (mendable s ms) j y)
+      go false y = omega (arith, is false y, count-no (mendable s ms) j y)
 
 module _ (s : Shape) (M : Mending s) (j m k : ℕ) (b : j < groups s) (e : first s j ≡ m) (d : span s ≡ k) (ws ms zs ns : List ℕ) (l : length ws ≡ s .n) (o : length ms ≡ s .n)
     (F : Upto s (passed-at s ws ms) j ws zs) (H : Upto s (mark-at s ms) j ms ns) (x : ℕ) (zs′ ns′ : List ℕ)
@@ -80,6 +84,4 @@ module _ (s : Shape) (M : Mending s) (j m k : ℕ) (b : j < groups s) (e : first
 
   pub number-step : count (mendable s ms) j + x ≡ count (mendable s ms) (j + 1)
   unfolding np
-  number-step =
-      counted s M j b ws ms zp np word-part marks-part x
-      (λ t y. G .number ∙ ap (λ b. cond b 1 0) (lone-part s M j ms np marks-part ∙ y))
+  number-step = one-more s M j b ws ms zp np word-part marks-part x (G .number)

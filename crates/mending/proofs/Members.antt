@@ -1,5 +1,4 @@
 -- A group's span of the word and of the marks, by members. Assumes nothing.
---   Of-span s j ws xs               == xs has the word's entries at the members of group j
 --   length-mates-part, mate-within  a member's mates in a span
 --   symbols-part                    their symbols, in the span and in the word
 --   lone-part, mends-part           a group's only loss, in the span and in the word
@@ -21,15 +20,13 @@ use Rattle.code.specs.Erasure.{group-losses}
 use Rattle.code.specs.Repair.{symbols-of}
 use Rattle.code.specs.Pass.{mendable, mends}
 use Rattle.code.specs.Laws.{Placed, Mending}
-use Rattle.code.proofs.Places.{slot-below, group-slot-at, member-slot-at, whole-room}
+use Rattle.code.proofs.Places.{group-slot-at, member-slot-at, slot-inside}
 use Rattle.code.proofs.Mates.{mates-number, length-symbols, at-symbols}
 use Rattle.code.proofs.Lone.{mendable-one}
 use Rattle.layout.specs.Step.{mate-member}
 use Rattle.layout.proofs.Numbers.{mate-is}
+use Rattle.layout.proofs.Spans.{Of-span}
 use Rattle.mending.specs.Step.{lone, part-mates}
-
-abbrev pub Of-span : Shape → (group : ℕ) → (word part : List ℕ) → Type 0
-Of-span s j ws xs = (i : ℕ) → i < size s → at xs (i * step s) ≡ at ws (slot-at s j i)
 
 pub mate-within : (s : Shape) → s .tolerance ≡ 1 → (i k : ℕ) → k < s .r → mate-member i k < size s
 unfolding mate-member size
@@ -48,7 +45,7 @@ module _ (s : Shape) (M : Mending s) (j i : ℕ) (b : j < groups s) (h : i < siz
   p = slot-at s j i
 
   inside : p < s .n
-  inside = omega (arith, slot-below s P j i b h, whole-room s P (M .whole-groups))
+  inside = slot-inside s P (M .whole-groups) j i b h
 
   mate-in : (k : ℕ) → k < s .r → k < length (mates s p)
   mate-in k l = omega (arith, mates-number s M p inside)

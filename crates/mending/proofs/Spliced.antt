@@ -1,8 +1,7 @@
 -- A group's span that is lent out of the word or the marks and comes back, group after group. Assumes nothing.
 --   Upto s f j a z      == the buffer a has become z: the slots of the groups before j have f's values, the others are unchanged
 --   upto-none, upto-all    no group yet; all of them
---   span-within, length-lent, lent-span    a group's span, lent out of a buffer
---   span-left           that of the next group is as it came, at its members
+--   span-left           the span of the next group is as it came, at its members
 --   upto-more           one group more
 use mathlib.Core.Path.{_≡_, refl, sym, ap, _∙_}
 use mathlib.Core.Logic.{_≢_}
@@ -10,19 +9,17 @@ use mathlib.Core.List.{List}
 use Prim.Native.Nat.{ℕ, _+_, _*_, _-_, _≤_, _<_}
 use native.Mathlib.Decide.{ℕ-discrete, decLt}
 use native.Mathlib.Omega.{arith}
-use lib.ListN.{length, take, drop, length-drop}
-use lib.Seq.{length-take-le, getD-take, getD-drop}
+use lib.ListN.{length, take, drop}
 use Rattle.algebra.specs.Sequence.{at, tabulate}
 use Rattle.algebra.proofs.Tabulate.{tabulate-is}
 use Rattle.algebra.proofs.Splicing.{splice, length-splice, spliced-in, spliced-out}
 use Rattle.code.specs.declared.Shape.{Shape}
 use Rattle.code.specs.Shape.{size, groups, group, member, first, step, slot-at}
 use Rattle.code.specs.Laws.{Mending}
-use Rattle.code.proofs.Places.{n-room, whole-room, group-below, member-below, slot-below, slot-group-member, group-slot-at}
+use Rattle.code.proofs.Places.{n-room, slot-inside, group-below, member-below, slot-group-member, group-slot-at}
 use Rattle.layout.specs.Step.{span}
-use Rattle.layout.proofs.Spans.{member-in-span, span-room}
+use Rattle.layout.proofs.Spans.{Of-span, span-within, slot-in-span, member-inside, length-lent, lent-at, lent-span}
 use Rattle.mending.specs.Step.{Members-set}
-use Rattle.mending.proofs.Members.{Of-span}
 
 pub record Upto (s : Shape) (f : ℕ → ℕ) (j : ℕ) (a z : List ℕ) : Type 0 where
   pub same : length z ≡ length a
@@ -39,30 +36,6 @@ module _ (s : Shape) (f : ℕ → ℕ) where
       (λ p h. U .done p h (omega (arith, group-below s (M .placed) p (omega (arith, n-room s (M .placed))))))
 
 -- the span of group j is the k entries from m on
-module _ (s : Shape) (M : Mending s) (j m k : ℕ) (b : j < groups s) (e : first s j ≡ m) (d : span s ≡ k) where
-  pub span-within : m + k ≤ s .n
-  span-within = omega (arith, span-room s (M .placed) j b, whole-room s (M .placed) (M .whole-groups))
-
-  slot : (i : ℕ) → slot-at s j i ≡ m + i * step s
-  unfolding slot-at
-  slot i = omega (arith, e)
-
-  slot-inside : (i : ℕ) → i < size s → slot-at s j i < s .n
-  slot-inside i h = omega (arith, slot-below s (M .placed) j i b h, whole-room s (M .placed) (M .whole-groups))
-
-  member-inside : (i : ℕ) → i < size s → i * step s < k
-  member-inside i h = omega (arith, member-in-span s (M .placed) i h, d)
-
-  module _ (z : List ℕ) where
-    pub length-lent : length z ≡ s .n → length (take k (drop m z)) ≡ span s
-    length-lent l = length-take-le k (drop m z) (omega (arith, span-within, length-drop m z)) ∙ sym d
-
-    lent-at : (i : ℕ) → i < k → at (take k (drop m z)) i ≡ at z (m + i)
-    lent-at i h = getD-take k (drop m z) i 0 h ∙ getD-drop m z i 0
-
-    pub lent-span : Of-span s j z (take k (drop m z))
-    lent-span i h = lent-at (i * step s) (member-inside i h) ∙ ap (at z) (sym (slot i))
-
 module _ (s : Shape) (M : Mending s) (j m k : ℕ) (b : j < groups s) (e : first s j ≡ m) (d : span s ≡ k) (a z : List ℕ) (l : length a ≡ s .n) (f : ℕ → ℕ) (U : Upto s f j a z) where
   within : m + k ≤ length z
   within = omega (arith, U .same, span-within s M j m k b e d)
@@ -71,7 +44,7 @@ module _ (s : Shape) (M : Mending s) (j m k : ℕ) (b : j < groups s) (e : first
   pub span-left : Of-span s j a (take k (drop m z))
   span-left i h =
       lent-span s M j m k b e d z i h
-      ∙ U .left (slot-at s j i) (slot-inside s M j m k b e d i h) (omega (arith, group-slot-at s (M .placed) j i b h))
+      ∙ U .left (slot-at s j i) (slot-inside s (M .placed) (M .whole-groups) j i b h) (omega (arith, group-slot-at s (M .placed) j i b h))
 
   module _ (g : ℕ → ℕ) (part′ : List ℕ) (G : Members-set s g (take k (drop m z)) part′) where
     long : length part′ ≡ k
@@ -82,7 +55,7 @@ module _ (s : Shape) (M : Mending s) (j m k : ℕ) (b : j < groups s) (e : first
     elsewhere p n = go (decLt p m) (decLt p (m + k))
       where
         apart : (i : ℕ) → i < size s → p - m ≡ i * step s → m ≤ p → ⊥
-        apart i h t o = n (ap (group s) (omega (arith, slot s M j m k b e d i)) ∙ group-slot-at s (M .placed) j i b h)
+        apart i h t o = n (ap (group s) (omega (arith, slot-in-span s M j m k b e d i)) ∙ group-slot-at s (M .placed) j i b h)
 
         go : Dec (p < m) → Dec (p < m + k) → at (splice m k z part′) p ≡ at z p
         go (yes h) q = spliced-out m k z part′ within long p (λ i u v. omega arith)
@@ -105,7 +78,7 @@ module _ (s : Shape) (M : Mending s) (j m k : ℕ) (b : j < groups s) (e : first
             let i : ℕ = member s p in
             let o : i < size s = member-below s (M .placed) p (omega (arith, n-room s (M .placed))) in
             let w : slot-at s j i ≡ p = ap (λ j. slot-at s j i) (sym t) ∙ slot-group-member s (M .placed) p in
-            ap (at (splice m k z part′)) (sym w ∙ slot s M j m k b e d i) ∙ spliced-in m k z part′ within long (i * step s) (member-inside s M j m k b e d i o)
+            ap (at (splice m k z part′)) (sym w ∙ slot-in-span s M j m k b e d i) ∙ spliced-in m k z part′ within long (i * step s) (member-inside s M j m k b e d i o)
             ∙ G .own i o ∙ same i o ∙ ap f w
 
         go : (p : ℕ) → p < s .n → group s p < j + 1 → Dec (group s p ≡ j) → at (splice m k z part′) p ≡ f p

@@ -17,7 +17,7 @@ use Rattle.code.specs.Shape.{size, groups, group, member, slot-at}
 use Rattle.code.specs.Decoding.{lost}
 use Rattle.code.specs.Pass.{mendable}
 use Rattle.code.specs.Laws.{Mending}
-use Rattle.code.proofs.Places.{n-room, group-below, member-below, slot-below, slot-group-member, group-slot-at, whole-room}
+use Rattle.code.proofs.Places.{n-room, group-below, member-below, slot-group-member, group-slot-at, slot-inside}
 use Rattle.pass.specs.Pass.{reads, reads-below}
 use Rattle.pass.specs.Step.{group-reads-below}
 
@@ -60,7 +60,7 @@ module _ (s : Shape) (M : Mending s) (ws ms : List ℕ) (j : ℕ) (g : j < group
       no-false (every (readable s ws ms) (s .n))
       (λ t. subst (λ (b : Bool). T b) e
       (every-intro (λ i. readable s ws ms (slot-at s j i)) (size s)
-      (λ i h. every-at (readable s ws ms) (s .n) t (slot-at s j i) (omega (arith, slot-below s (M .placed) j i g h, whole-room s (M .placed) (M .whole-groups))))))
+      (λ i h. every-at (readable s ws ms) (s .n) t (slot-at s j i) (slot-inside s (M .placed) (M .whole-groups) j i g h))))
 
 -- every slot is one of its group's
 pub reads-all : (s : Shape) → Mending s → (ws ms : List ℕ) → ((j : ℕ) → j < groups s → group-reads-below s j ws ms ≡ true) → reads-below s ws ms ≡ true

@@ -14,11 +14,11 @@ use Rattle.code.proofs.Places.{n-room, group-below, member-below, slot-group-me
 use Rattle.code.proofs.Mates.{mates-number, length-symbols}
 use Rattle.code.proofs.Bounds.{r-most}
 use Rattle.layout.specs.Step.{span}
+use Rattle.layout.proofs.Spans.{lent-span}
 use Rattle.weights.specs.Weights.{sixteen}
 use Rattle.weights.proofs.Sixteen.{take-sixteen}
 use Rattle.mending.specs.Step.{part-mates}
 use Rattle.mending.proofs.Members.{symbols-part}
-use Rattle.mending.proofs.Spliced.{lent-span}
 
 module _ (s : Shape) (M : Mending s) (p : ℕ) (h : p < s .n) (ws : List ℕ) where
   pub gathered : (m k i : ℕ) → first s (group s p) ≡ m → span s ≡ k → i ≡ member s p → part-mates s i (take k (drop m ws)) ≡ symbols-of ws (mates s p)

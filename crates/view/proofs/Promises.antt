@@ -3,15 +3,17 @@
 use mathlib.Core.Path.{_≡_, refl, sym, ap, _∙_}
 use mathlib.Core.Bool.{cond, not}
 use mathlib.Core.List.{[]}
+use Prim.Native.Nat.{_*_}
 use native.Mathlib.Omega.{arith}
 use borrow.Author.Tests.{lt-ltb, eq-eqb}
 use lib.ListN.{length}
 use denote.Ref.{now}
 use Rattle.algebra.specs.Sequence.{at}
-use Rattle.code.specs.Shape.{size, group, first}
+use Rattle.code.specs.Shape.{size, group, first, step}
 use Rattle.code.proofs.Questions.{ask-no, ask-yes, or-ask-on}
 use Rattle.code.proofs.Places.{n-room, group-below}
-use Rattle.view.proofs.Parts.{length-part, group-room, part-of}
+use Rattle.layout.proofs.Spans.{length-lent, lent-span}
+use Rattle.view.proofs.Parts.{step-unwired, span-unwired}
 use Rattle.view.specs.View.{view-refusal, part}
 use Rattle.view.specs.Promise.{View-holds, Wired-no-view, Promises}
 
@@ -22,9 +24,12 @@ view-holds s p word view M unwired l h says =
     let j = group s p in
     let z : view-refusal 0 s p (now word) ≡ 0 = sym (or-ask-on 0 _ 0 refl (ask-yes 18 (ap not unwired) (ask-yes 5 (eq-eqb (length (now word)) (s .n) l) (ask-yes 7 (lt-ltb p (s .n) h) refl)))) in
     let w = says .symbols ∙ ap (λ b. cond b (part s j (now word)) []) (eq-eqb (view-refusal 0 s p (now word)) 0 z) in
-    let g = group-below s P p (omega (arith, n-room s P)) in (
-      ap (λ ws. length ws) w ∙ length-part (first s j) (size s) (now word) (omega (arith, group-room s unwired P (M .whole-groups) j g)),
-      λ i b. ap (λ ws. at ws i) w ∙ part-of s unwired j (first s j) (size s) (now word) refl refl i b,
+    let g = group-below s P p (omega (arith, n-room s P)) in
+    let d = span-unwired s unwired P in (
+      ap (λ ws. length ws) w ∙ length-lent s M j (first s j) (size s) g refl d (now word) l ∙ d,
+      λ i b.
+          let e : i ≡ i * step s = omega (arith, ap (λ t. i * t) (step-unwired s unwired)) in
+          ap (λ ws. at ws i) w ∙ ap (at (part s j (now word))) e ∙ lent-span s M j (first s j) (size s) g refl d (now word) i b,
     )
 
 pub wired-no-view : Wired-no-view

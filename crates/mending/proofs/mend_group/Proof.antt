@@ -8,7 +8,7 @@ use Rattle.algebra.specs.Sequence.{at, count}
 use Rattle.code.specs.Shape.{size, step, slot-at}
 use Rattle.code.specs.Decoding.{lost}
 use Rattle.code.specs.Repair.{weights, repaired}
-use Rattle.code.proofs.Places.{slot-below, whole-room}
+use Rattle.code.proofs.Places.{slot-inside}
 use Rattle.code.proofs.Bounds.{r-most}
 use Rattle.layout.specs.Step.{span}
 use Rattle.layout.proofs.Spans.{member-in-span, span-byte}
@@ -97,7 +97,7 @@ slot-within c =
     let s = c .before .before .before .before .before .before .before .before .before .before in
     let h = s .args .shape in
     let P = s .pre .2 .placed in
-    omega (arith, c .slot-at .ensures, slot-below h P (s .args .group) (c .before .lost-member .result) (s .pre .3) (member-within (c .before) .0), whole-room h P (s .pre .2 .whole-groups))
+    omega (arith, c .slot-at .ensures, slot-inside h P (s .pre .2 .whole-groups) (s .args .group) (c .before .lost-member .result) (s .pre .3) (member-within (c .before) .0))
 
 cast-member : tie.Need-cast-member
 cast-member c = omega (arith, member-within c)

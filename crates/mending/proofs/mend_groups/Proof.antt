@@ -13,7 +13,8 @@ use Rattle.code.specs.Pass.{mendable, passed, marks-after, mended}
 use Rattle.code.proofs.Bounds.{n-most, groups-most}
 use Rattle.code.proofs.Passing.{passed-at, mark-at}
 use Rattle.layout.specs.Step.{span}
-use Rattle.mending.proofs.Spliced.{Upto, upto-none, upto-all, span-within, length-lent}
+use Rattle.layout.proofs.Spans.{span-within, length-lent}
+use Rattle.mending.proofs.Spliced.{Upto, upto-none, upto-all}
 use Rattle.mending.proofs.Groups.{word-step, marks-step, number-step}
 use Rattle.mending.proofs.mend_groups.Statement.{statement}
 use Rattle.mending.proofs.mend_groups.Tie as tie

@@ -10,7 +10,7 @@ use Rattle.field.specs.Field.{q}
 use Rattle.code.specs.Shape.{size, first, slot-at}
 use Rattle.code.specs.Decoding.{lost}
 use Rattle.code.specs.Erasure.{group-losses}
-use Rattle.code.proofs.Places.{slot-below, whole-room}
+use Rattle.code.proofs.Places.{slot-inside}
 use Rattle.code.proofs.Lone.{mendable-one}
 use Rattle.pass.proofs.Reading.{none-read, kept-read}
 use Rattle.pass.proofs.group_below.Statement.{statement}
@@ -46,7 +46,7 @@ inside c i h =
     let s = c .before .before .before .before .before in
     let M = s .pre .0 in
     let l : i < size (s .args .shape) = omega (arith, c .before .before .size-of .ensures) in
-    omega (arith, place c i, slot-below (s .args .shape) (M .placed) (s .args .group) i (s .pre .1) l, whole-room (s .args .shape) (M .placed) (M .whole-groups))
+    omega (arith, place c i, slot-inside (s .args .shape) (M .placed) (M .whole-groups) (s .args .group) i (s .pre .1) l)
 
 losses-from-requires : tie.Need-losses-from-requires
 losses-from-requires c κs = λ i h. omega (arith, inside c i h, c .before .before .before .before .before .pre .3)

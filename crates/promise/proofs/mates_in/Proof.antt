@@ -5,8 +5,8 @@ use native.Mathlib.Omega.{arith}
 use Rattle.code.specs.Shape.{first}
 use Rattle.code.proofs.Bounds.{n-most}
 use Rattle.layout.specs.Step.{span}
+use Rattle.layout.proofs.Spans.{span-within, length-lent}
 use Rattle.weights.specs.Weights.{sixteen}
-use Rattle.mending.proofs.Spliced.{span-within, length-lent}
 use Rattle.promise.proofs.Gathering.{gathered}
 use Rattle.promise.proofs.mates_in.Statement.{statement}
 use Rattle.promise.proofs.mates_in.Tie as tie

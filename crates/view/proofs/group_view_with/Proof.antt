@@ -7,7 +7,8 @@ use lib.ListN.{take, drop}
 use borrow.Author.Tests.{eq-eqb, ne-eqb}
 use Rattle.code.specs.Shape.{size, wired, group, first}
 use Rattle.code.specs.Laws.{Mending}
-use Rattle.view.proofs.Parts.{group-room}
+use Rattle.layout.proofs.Spans.{span-within}
+use Rattle.view.proofs.Parts.{span-unwired}
 use Rattle.view.specs.View.{view-refusal, part}
 use Rattle.view.proofs.Refusals.{View-passed, view-passed}
 use Rattle.view.proofs.group_view_with.Statement.{statement}
@@ -66,7 +67,7 @@ part-result-end c =
     let s = t .before .before .before .args .shape in
     let L = lawful t in
     let g = c .before .before .group-of in
-    omega (arith, c .before .first-of .ensures, c .size-of .ensures, passed t .length-is, group-room s (L .1) (L .0 .placed) (L .0 .whole-groups) (g .result) (g .ensures .1))
+    omega (arith, c .before .first-of .ensures, c .size-of .ensures, passed t .length-is, span-within s (L .0) (g .result) (first s (g .result)) (size s) (g .ensures .1) refl (span-unwired s (L .1) (L .0 .placed)))
 
 returns-2 : tie.Need-returns-2
 unfolding part
