@@ -37,7 +37,7 @@ def rebuilds(code, slot, strips, output):
 
 def views(code, slot, word):
     refusal, first = ref.view(code, slot, word)
-    part = word[first : first + code.r + 1] if refusal == 0 else b""
+    part = [word[p] for p in ref.members(code, ref.group(code, slot))] if refusal == 0 else []
     head("view", code)
     line(refusal, *part)
 
@@ -95,6 +95,12 @@ def questions():
     encodes(ref.Code(*[2**32 - 1] * 5), ones[:1], bytearray(9))
 
 
+def short_questions():
+    """No slots, one in the last group, k below s - 1 and above n - m, wired, and a codeword of nine for eight."""
+    for numbers in [(2, 0, 4), (5, 7, 4), (3, 7, 1), (2, 8, 6), (2, 8, 6, 1), (2, 8, 4, 1), (2, 8, 4)]:
+        encodes(ref.Code(0, *numbers), bytes([1, 1, 1, 1]), bytearray(9))
+
+
 def other_codes():
     encodes(ref.Code(0, 3, 12, 7), bytes([1, 2, 3, 4, 5, 6, 7]), bytearray(12))
     encodes(ref.Code(1, 2, 9, 5), bytes([1, 2, 3, 4, 255]), bytearray(9))
@@ -121,6 +127,34 @@ def wired(field, *message):
     passes(code, word, bytearray([1, 1] + [0] * 7))
 
 
+def short(field, *message):
+    """Every call on a code with the guarantee 4 and slots 9 and 10 for a last group; those lost first hold no symbols."""
+    code, word = ref.Code(field, 2, 11, 5), bytearray(11)
+    encodes(code, bytes(message), word)
+    word[0] = word[10] = 255
+    weighs(code, 9)
+    weighs(code, 10)
+    repairs(code, 10, bytes([7]))
+    rebuilds(code, 9, bytes([10, 0, 1]), bytearray(3))
+    for slot, mates in [(10, [7, 6]), (4, [7]), (11, [7]), (11, [7, 6])]:
+        repairs(code, slot, bytes(mates))
+    views(code, 9, word)
+    for text in ("10000000001", "11000000011", "10000100111", "11100000011"):
+        decodes(code, word, bytes(map(int, text)), bytearray([7] * 5), bytearray(66))
+    for text in ("00000000011", "00000000110"):
+        breaks(code, bytes(map(int, text)))
+    passes(code, word, bytearray([1] + [0] * 9 + [1]))
+
+
+def more_mates():
+    code = ref.Code(1, 4, 8, 5)
+    weighs(code, 6)
+    repairs(code, 6, bytes([10, 200]))
+    rebuilds(code, 6, bytes([10, 0, 1, 200, 0, 2]), bytearray(3))
+    weighs(ref.Code(1, 16, 250, 230), 249)
+    repairs(ref.Code(0, 11, 5, 4), 2, bytes([1, 2, 3, 4]))
+
+
 def corner(*numbers):
     code = ref.Code(*numbers)
     message = bytes((7 * i + 3) % ref.order(code.field) for i in range(code.k))
@@ -134,12 +168,20 @@ def corner(*numbers):
 if __name__ == "__main__":
     classroom()
     questions()
+    short_questions()
     other_codes()
     wired(0, 1, 2, 3, 4)
     wired(1, 1, 2, 3, 255)
+    short(0, 1, 2, 3, 4, 5)
+    short(1, 1, 2, 3, 4, 255)
+    more_mates()
     corner(0, 1, 12, 6)
     corner(0, 11, 12, 11)
     corner(0, 2, 12, 1)
     corner(1, 14, 30, 5)
     corner(1, 16, 255, 240)
     corner(1, 4, 10, 3, 1)
+    corner(0, 2, 11, 5)
+    corner(0, 3, 6, 2)
+    corner(1, 16, 250, 230)
+    corner(0, 11, 5, 4)

@@ -29,14 +29,27 @@ def line(*words):
     return " ".join(map(str, words)) + "\n"
 
 
+def term(code, m):
+    """What message symbol m is the coefficient of."""
+    if ref.short(code) == 0:
+        return f"x^{ref.exponent(code, m)}"
+    if m < ref.g_symbols(code):
+        return f"g^{1 + m // code.r} x^{m % code.r}"
+    return f"h x^{m - ref.g_symbols(code)}"
+
+
 def sheet(code, message, codeword):
     lines = [line("powers", *(ref.power(0, ref.GAMMA, e) for e in range(12)))]
     for g in range(ref.groups(code)):
         slots = ["slots", *ref.members(code, g)] if code.wiring else []
-        lines.append(line("group", g, *slots, "points", *(ref.point(code, p) for p in ref.members(code, g))))
+        lacking = ["missing", *ref.zeros(code, g)] if ref.zeros(code, g) else []
+        lines.append(line("group", g, *slots, "points", *(ref.point(code, p) for p in ref.members(code, g)), *lacking))
     if code.wiring:
         lines.append(line("points", *(ref.point(code, p) for p in range(code.n))))
-    lines.append(line("polynomial", *(f"{s} x^{ref.exponent(code, m)}" for m, s in enumerate(message))))
+    if ref.short(code):
+        lines.append(line("g", f"x^{code.r + 1}", "-", ref.constant(code)))
+        lines.append(line("h", *(f"(x - {beta})" for beta in ref.missing(code))))
+    lines.append(line("polynomial", *(f"{s} {term(code, m)}" for m, s in enumerate(message))))
     lines.append(line("codeword", *codeword))
     for p in range(code.n):
         lines.append(line("slot", p, "mates", *ref.mates(code, p), "weights", *ref.repair_weights(code, p)))
@@ -45,9 +58,11 @@ def sheet(code, message, codeword):
 
 REASONS = {
     2: (0, b"r is 1, 2, 3, 5 or 11 (refusal 2)"),
-    3: (1, b"n is a multiple of r + 1, from r + 1 to 12 (refusal 3)"),
+    3: (1, b"n is from 2 to 12, and n mod (r + 1) is not 1 (refusal 3)"),
     4: (2, b"k is from 1 to r * n / (r + 1) (refusal 4)"),
+    17: (1, b"wired groups are whole: n is a multiple of r + 1 (refusal 17)"),
 }
+SHORT_REASON = 2, b"k is from s - 1 to n - m, for m groups of which the last has s slots (refusal 4)"
 
 
 def answer(data):
@@ -66,7 +81,8 @@ def answer(data):
     code = ref.Code(0, r, n, k, wiring)
     refusal = ref.code_refusal(code)
     if refusal:
-        return refused_number(words, *REASONS[refusal])
+        reason = SHORT_REASON if refusal == 4 and ref.short(code) else REASONS[refusal]
+        return refused_number(words, *reason)
     if len(message) != k:
         return refused(b"%d message symbols are refused: k is %d (refusal 5)" % (len(message), k))
     for i, symbol in enumerate(message):

@@ -2,7 +2,8 @@
 
 It shares no code and no table with the library: products are carry-less products reduced by 11D,
 inverses are searched for, codewords are values of the encoding polynomial, repair is Lagrange's
-formula, and decoding is Gauss-Jordan elimination over all kept equations.
+formula, and decoding is Gauss-Jordan elimination over all kept equations. A code whose last group
+is short has another basis (g and h), and its repair there takes the missing points as zeros.
 
 Each call takes the code and the caller's buffers (bytes, bytearray, or a list for 32-bit numbers),
 asks its questions in the order that is written above it, writes its outputs in place, and answers
@@ -70,7 +71,13 @@ def power(field, a, e):
 
 
 def groups(code):
-    return code.n // (code.r + 1)
+    """The number of groups, m: the last may be short."""
+    return -(-code.n // (code.r + 1))
+
+
+def short(code):
+    """The members of a short last group, s, or 0 where every group is whole."""
+    return code.n % (code.r + 1)
 
 
 def place(code, slot):
@@ -93,25 +100,74 @@ def mates(code, slot):
     return [p for p in members(code, group(code, slot)) if p != slot]
 
 
-def point(code, slot):
-    j, i = place(code, slot)
+def member_point(code, j, i):
+    """The point of member i of group j, whether the code has that slot or not."""
     return power(code.field, GAMMA, j + i * ((order(code.field) - 1) // (code.r + 1)))
+
+
+def point(code, slot):
+    return member_point(code, *place(code, slot))
+
+
+def missing(code):
+    """The points of the members that a short last group lacks, B; none where it is whole."""
+    s = short(code)
+    return [member_point(code, groups(code) - 1, i) for i in range(s, code.r + 1)] if s else []
+
+
+def filled_dimension(code):
+    """k and one for each missing point, k'."""
+    return code.k + (code.r + 1 - short(code) if short(code) else 0)
 
 
 def exponent(code, m):
     return m // code.r * (code.r + 1) + m % code.r
 
 
+def constant(code):
+    """The power r + 1 of the last group's points, c."""
+    return power(code.field, member_point(code, groups(code) - 1, 0), code.r + 1)
+
+
+def g_symbols(code):
+    """How many message symbols of a short code stand before powers of g; the rest are before h."""
+    return filled_dimension(code) - code.r
+
+
+def value_of_g(code, x):
+    return sub(code.field, power(code.field, x, code.r + 1), constant(code))
+
+
+def value_of_h(code, x):
+    """The product of x - beta over the missing points."""
+    product = 1
+    for beta in missing(code):
+        product = mul(code.field, product, sub(code.field, x, beta))
+    return product
+
+
+@lru_cache(maxsize=4096)
+def basis(code, x):
+    """For each message symbol, in order, the value at x of what it is the coefficient of."""
+    field, r = code.field, code.r
+    if short(code) == 0:
+        return [power(field, x, exponent(code, m)) for m in range(code.k)]
+    g, h = value_of_g(code, x), value_of_h(code, x)
+    powers = [(1 + m // r, m % r) for m in range(g_symbols(code))]  # j and i, with i fastest
+    before_g = [mul(field, power(field, g, j), power(field, x, i)) for j, i in powers]
+    before_h = [mul(field, h, power(field, x, i)) for i in range(short(code) - 1)]
+    return before_g + before_h
+
+
 def guarantee(code):
-    return code.n - code.k - -(-code.k // code.r) + 1
+    return code.n - code.k - -(-filled_dimension(code) // code.r) + 1
 
 
 def evaluate(code, message, x):
     """The encoding polynomial's value at x."""
     total = 0
-    for m, symbol in enumerate(message):
-        term = mul(code.field, symbol, power(code.field, x, exponent(code, m)))
-        total = add(code.field, total, term)
+    for symbol, value in zip(message, basis(code, x)):
+        total = add(code.field, total, mul(code.field, symbol, value))
     return total
 
 
@@ -122,11 +178,14 @@ def code_refusal(code):
     q = order(code.field)
     if not (1 <= code.r <= 16 and (q - 1) % (code.r + 1) == 0):
         return 2
-    if not (code.n % (code.r + 1) == 0 and code.r + 1 <= code.n <= q - 1):
+    s, m = short(code), groups(code)
+    if code.n == 0 or s == 1 or m * (code.r + 1) > q - 1:
         return 3
-    if not 1 <= code.k <= code.r * code.n // (code.r + 1):
+    if s == 0 and not 1 <= code.k <= code.r * code.n // (code.r + 1):
         return 4
-    if code.wiring not in (0, 1) or code.wiring == 1 and code.n % (code.r + 1):
+    if s != 0 and not s - 1 <= code.k <= code.n - m:
+        return 4
+    if code.wiring not in (0, 1) or code.wiring == 1 and s != 0:
         return 17
     return 0
 
@@ -167,14 +226,25 @@ def lagrange(field, xs, x):
     return weights
 
 
+def zeros(code, g):
+    """The points where a group's polynomial is 0 by itself: those that the group lacks."""
+    return missing(code) if g == groups(code) - 1 else []
+
+
 @lru_cache(maxsize=4096)
 def repair_weights(code, slot):
+    """A weight for each mate; the polynomial is 0 at the points that the slot's group lacks."""
     xs = [point(code, p) for p in mates(code, slot)]
-    return lagrange(code.field, xs, point(code, slot))
+    return lagrange(code.field, xs + zeros(code, group(code, slot)), point(code, slot))[: len(xs)]
+
+
+def mates_wanted(code, slot):
+    """The number of mates that question 5 wants: r for a slot that is none."""
+    return len(mates(code, slot)) if slot < code.n else code.r
 
 
 def repaired(code, slot, symbols):
-    """The value at the slot's point of the polynomial of degree below r through the mates."""
+    """The value at the slot's point of the polynomial of degree below r through mates and zeros."""
     total = 0
     for w, s in zip(repair_weights(code, slot), symbols):
         total = add(code.field, total, mul(code.field, w, s))
@@ -200,7 +270,7 @@ def repair(code, slot, symbols):
     refusal = code_refusal(code)
     if refusal:
         return refusal, 0
-    if len(symbols) != code.r:
+    if len(symbols) != mates_wanted(code, slot):
         return 5, 0
     if not slot < code.n:
         return 7, 0
@@ -215,7 +285,7 @@ def rebuild(code, slot, strips, out):
     if refusal:
         return refusal
     columns = len(out)
-    if not 1 <= columns <= MOST_STRIP or len(strips) != code.r * columns:
+    if not 1 <= columns <= MOST_STRIP or len(strips) != mates_wanted(code, slot) * columns:
         return 5
     if not slot < code.n:
         return 7
@@ -308,9 +378,7 @@ def solve(code, word, marks):
     rows = []
     for p in range(code.n):
         if marks[p] == 0:
-            x = point(code, p)
-            row = [power(code.field, x, exponent(code, m)) for m in range(code.k)]
-            rows.append(bytes(row + [word[p]]))
+            rows.append(bytes(basis(code, point(code, p)) + [word[p]]))
     return eliminate(code.field, rows, code.k)
 
 

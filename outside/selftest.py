@@ -1,10 +1,11 @@
-"""Checks the reference: the paper's worked cases, brute force over small codes of thirteen by both wirings, and which calls
-vectors.py makes.
+"""Checks the reference: the paper's worked cases, brute force over small codes of thirteen by both wirings and with short
+last groups, and which calls vectors.py makes.
 
     python3 outside/selftest.py
 """
 
 import itertools
+import math
 import random
 import struct
 from pathlib import Path
@@ -15,6 +16,7 @@ from reference import Code
 
 N = Code(0, 2, 9, 4)
 WIRED = N._replace(wiring=1)
+ELEVEN = Code(0, 2, 11, 5)  # four groups: the last has slots 9 and 10
 ONES = bytes([1, 1, 1, 1])
 ONES_WORD = bytes([4, 8, 7, 1, 11, 2, 0, 0, 0])
 
@@ -69,6 +71,30 @@ def test_code_numbers():
         assert refusal(N._replace(wiring=wiring)) == 17
         assert refusal(Code(0, 2, 9, 7, wiring)) == 4
     assert refusal(Code(0, 2, 10, 4, 1)) == 3  # 17 refuses such n too, behind 3
+
+
+def test_short_numbers():
+    """Every code of thirteen with small numbers, by the sizes of its groups."""
+    for r, n, k, wiring in itertools.product(range(18), range(15), range(15), range(3)):
+        if r not in (1, 2, 3, 5, 11):
+            wanted = 2
+        else:
+            sizes = [min(r + 1, n - first) for first in range(0, n, r + 1)]
+            whole = sizes != [] and min(sizes) == r + 1
+            most = sum(size - 1 for size in sizes)  # the symbols that the groups do not settle themselves
+            if not sizes or min(sizes) == 1 or len(sizes) * (r + 1) > 12:
+                wanted = 3
+            elif k not in range(1 if whole else min(sizes) - 1, most + 1):
+                wanted = 4
+            else:
+                wanted = 0 if wiring in ((0, 1) if whole else (0,)) else 17
+        assert ref.code_refusal(Code(0, r, n, k, wiring)) == wanted, (r, n, k, wiring)
+    for k, wanted in [(10, 4), (11, 0), (230, 0), (235, 0), (236, 4)]:
+        assert ref.code_refusal(Code(1, 16, 250, k)) == wanted
+    assert ref.code_refusal(Code(1, 2, 254, 1)) == 0 and ref.code_refusal(Code(1, 2, 254, 170)) == 4
+    assert ref.code_refusal(Code(1, 2, 253, 100)) == 3 and ref.code_refusal(Code(1, 2, 257, 100)) == 3
+    assert ref.code_refusal(Code(1, 16, 16, 15)) == 0 and ref.code_refusal(Code(1, 16, 16, 14)) == 4
+    assert ref.code_refusal(Code(1, 16, 250, 10, 1)) == 4 and ref.code_refusal(Code(1, 16, 250, 11, 1)) == 17
 
 
 def test_classroom():
@@ -141,6 +167,61 @@ def test_wired_is_permuted():
                 assert ref.repair_weights(wired, g + i * count) == ref.repair_weights(plain, g * (code.r + 1) + i)
 
 
+def test_short_classroom():
+    """Eleven slots in groups of three: group 3 has the points 8 and 11, and 7 is missing."""
+    assert [ref.point(ELEVEN, p) for p in range(11)] == [1, 3, 9, 2, 6, 5, 4, 12, 10, 8, 11]
+    assert ref.missing(ELEVEN) == [7] and ref.constant(ELEVEN) == 5 and ref.guarantee(ELEVEN) == 4
+    assert encoded(ELEVEN, [1] * 5) == bytes([5, 5, 5, 5, 5, 5, 4, 5, 8, 1, 4])
+    message, out = bytes([1, 2, 3, 4, 5]), bytearray(16)
+    word = encoded(ELEVEN, message)
+    assert ref.weights(ELEVEN, 10, out) == 0 and out == bytes([4] + [0] * 15)
+    assert ref.weights(ELEVEN, 4, out) == 0 and out == bytes([4, 10] + [0] * 14)
+    assert ref.repair(ELEVEN, 10, word[9:10]) == (0, word[10]) and ref.repair(ELEVEN, 9, word[10:]) == (0, word[9])
+    assert ref.view(ELEVEN, 10, word) == (0, 9) and ref.view(ELEVEN, 8, word) == (0, 6)
+    spoiled, marks = bytearray(word), bytearray(marked(11, [0, 4, 10]))
+    spoiled[0] = spoiled[4] = spoiled[10] = 255
+    assert ref.local_pass(ELEVEN, spoiled, marks) == (0, 3)
+    assert spoiled == word and marks == bytes(11)
+    for lost, level, first in [([0, 10], 1, 255), ([9, 10], 2, 3), ([0, 1, 9, 10], 2, 0), ([2, 5, 7, 8, 9, 10], 3, 2)]:
+        assert decoded(ELEVEN, word, marked(11, lost)) == (0, message)
+        assert ref.grade(ELEVEN, marked(11, lost)) == (0, level)
+        assert ref.first_crowded(ELEVEN, marked(11, lost)) == first
+    assert decoded(ELEVEN, word, marked(11, range(6, 11)))[0] == 10
+    assert decoded(ELEVEN, word[:10] + b"\1", bytes(11))[0] == 9
+
+
+def values(code, coefficients):
+    """The values mod 13 of a polynomial, by its coefficients from the lowest, at the code's points."""
+    return bytes(sum(c * ref.point(code, p) ** e for e, c in enumerate(coefficients)) % 13 for p in range(code.n))
+
+
+def test_short_message():
+    """The order of the message, by polynomials worked by hand."""
+    g, g_x, h = [8, 0, 0, 1], [0, 8, 0, 0, 1], [6, 1]  # x^3 - 5, that times x, x - 7
+    g_2, g_2_x = [12, 0, 0, 3, 0, 0, 1], [0, 12, 0, 0, 3, 0, 0, 1]
+    for m, poly in enumerate([g, g_x, g_2, g_2_x, h]):
+        assert encoded(ELEVEN, [int(i == m) for i in range(5)]) == values(ELEVEN, poly)
+    assert encoded(ELEVEN, [1, 2, 3, 4, 5]) == values(ELEVEN, [9, 4, 0, 10, 1, 0, 3, 4])
+    code = Code(0, 3, 6, 2)  # points 1 8 12 5 and 2 3: 11 and 10 are missing, and c is 3
+    assert encoded(code, [1, 0]) == values(code, [10, 0, 0, 0, 1])
+    assert encoded(code, [0, 1]) == values(code, [6, 5, 1])  # (x - 11) (x - 10)
+    assert encoded(code, [1, 2]) == values(code, [9, 10, 2, 0, 1]) == bytes([9, 10, 2, 6, 1, 8])
+    code = Code(0, 11, 3, 2)  # one group, of three: every symbol is before h
+    h = [1]
+    for beta in [8, 3, 6, 12, 11, 9, 5, 10, 7]:
+        h = [(a - beta * b) % 13 for a, b in zip([0, *h], [*h, 0])]
+    assert encoded(code, [1, 0]) == values(code, h) and encoded(code, [0, 1]) == values(code, [0, *h])
+
+
+def test_short_zeros():
+    """Every encoding polynomial of a short code is 0 at the missing points; at a slot's point not all are."""
+    for code in itertools.chain(short_codes(9), [Code(1, 4, 8, 5), Code(1, 14, 29, 26), Code(1, 16, 250, 230)]):
+        lacking = ref.missing(code)
+        assert len(set(lacking)) == code.r + 1 - code.n % (code.r + 1)
+        assert all(ref.basis(code, x) == [0] * code.k for x in lacking)
+        assert all(any(ref.basis(code, ref.point(code, p))) for p in range(code.n))
+
+
 def test_sighted_cases():
     """Cases that see the order of the message, and bytes."""
     assert encoded(N, [1, 2, 3, 4]) == bytes([10, 9, 6, 2, 8, 0, 3, 0, 4])
@@ -201,6 +282,24 @@ def test_wired_sheets():
     assert read(sheet("18020a04")) == 3 and read(sheet("18020907")) == 4 and read(sheet("18020904")) == 13
 
 
+def test_short_sheets():
+    """There and back with a short last group; wired it is 17, after 4 and before 13."""
+    for code in (ELEVEN, Code(1, 4, 8, 5), Code(0, 11, 3, 2)):
+        message, lost = bytes(range(1, code.k + 1)), [code.n - 1]
+        true, marks = encoded(code, message), marked(code.n, lost)
+        data = plain_sheet(code, true, marks)
+        word, left, numbers = bytearray(255), bytearray(255), [7] * 5
+        assert ref.read_sheet(data, word, left, numbers) == 0 and Code(*numbers) == code
+        assert left[: code.n] == marks and all(w == (0 if m else t) for w, m, t in zip(word, marks, true))
+        numbers, text = " ".join(map(str, code[:4])), " ".join(map(str, message))
+        sure = f"lost 1 sure {ref.guarantee(code)} grade 1 first 255"
+        assert ref.report_text(data) == f"code {numbers}\n{sure}\nmessage {text}\n"
+        data[0] |= 8
+        assert read(data) == 17 and read(data[:-4]) == 17 and ref.report_text(data) == "refused 17\n"
+    assert read(sheet("18020b08")) == 4 and read(sheet("18020b05")) == 17 and read(sheet("10020b05")) == 13
+    assert read(sheet("10020005")) == 3 and read(sheet("10020a05")) == 3 and read(sheet("10030b01")) == 4
+
+
 def plain_sheet(code, word, marks):
     data = bytearray(4 * (code.n + 2))
     assert ref.write_sheet(code._replace(wiring=0), word, marks, data) == 0
@@ -236,6 +335,14 @@ def small_codes(most_k):
                 yield Code(0, r, n, k, 1)
 
 
+def short_codes(most_k):
+    """With a short last group."""
+    for r, n in itertools.product((2, 3, 5, 11), range(2, 12)):
+        s, m = n % (r + 1), -(-n // (r + 1))
+        for k in range(s - 1, min(most_k, n - m) + 1) if s > 1 else ():
+            yield Code(0, r, n, k)
+
+
 def all_messages(code):
     return [bytes(m) for m in itertools.product(range(13), repeat=code.k)]
 
@@ -253,14 +360,34 @@ def test_distance():
         assert ref.guarantee(code) == code.n - most - 1
 
 
+def test_short_distance():
+    """With k' = k + r + 1 - s two codewords share at most k + ceil(k'/r) - 2 places, and some do: zeros of sums of rows."""
+    for code in short_codes(4):
+        rows = [encoded(code, [int(i == m) for i in range(code.k)]) for m in range(code.k)]
+        most = code.k + -(-(code.k + code.r + 1 - code.n % (code.r + 1)) // code.r) - 2
+        zeros = []
+        for first in range(code.k):  # up to a factor: the first symbol that is not 0 is 1
+            for rest in itertools.product(range(13), repeat=code.k - 1 - first):
+                word = [sum(map(int.__mul__, (1, *rest), column)) % 13 for column in zip(*rows[first:])]
+                zeros.append(word.count(0))
+        assert max(zeros) == most
+        assert ref.guarantee(code) == code.n - most - 1
+
+
 def test_local_repair():
-    """Every symbol of every codeword is the repair of its mates."""
-    for code in small_codes(2):
+    """Every symbol of every codeword is the repair of its mates: of a short last group s - 1 settle the remaining one."""
+    for code in itertools.chain(small_codes(2), short_codes(2)):
         for message in all_messages(code):
             word = encoded(code, message)
             for slot in range(code.n):
                 symbols = bytes(word[p] for p in ref.mates(code, slot))
                 assert ref.repair(code, slot, symbols) == (0, word[slot])
+    rng = random.Random(7)
+    for code in itertools.chain(short_codes(10), [Code(1, 4, 8, 5), Code(1, 14, 29, 26), Code(1, 16, 250, 230)]):
+        word, last = encoded(code, [rng.randrange(ref.order(code.field)) for _ in range(code.k)]), ref.groups(code) - 1
+        for slot in range(last * (code.r + 1), code.n):
+            symbols = word[last * (code.r + 1) : slot] + word[slot + 1 :]
+            assert len(symbols) == code.n % (code.r + 1) - 1 and ref.repair(code, slot, symbols) == (0, word[slot])
 
 
 def test_repair_is_interpolation():
@@ -276,6 +403,20 @@ def test_repair_is_interpolation():
                     assert ref.repair(code, slot, bytes(ys)) == (0, y)
 
 
+def test_short_repair_is_interpolation():
+    """In a short last group it is the value of a polynomial of degree below r that is 0 at the missing points."""
+    for code in short_codes(11):
+        s, first = code.n % (code.r + 1), code.n - code.n % (code.r + 1)
+        if s > 4 or code.k > s - 1:
+            continue  # the weights do not depend on k
+        points = [pow(2, first // (code.r + 1) + i * (12 // (code.r + 1)), 13) for i in range(code.r + 1)]
+        h = [math.prod(x - b for b in points[s:]) for x in points[:s]]
+        for factor in itertools.product(range(13), repeat=s - 1):
+            ys = [a * sum(c * x**e for e, c in enumerate(factor)) % 13 for a, x in zip(h, points)]
+            for i in range(s):
+                assert ref.repair(code, first + i, bytes(ys[:i] + ys[i + 1 :])) == (0, ys[i])
+
+
 def outcome_by_search(code, words, word, marks):
     kept = [p for p in range(code.n) if not marks[p]]
     fitting = [m for m, w in words if all(w[p] == word[p] for p in kept)]
@@ -287,7 +428,7 @@ def outcome_by_search(code, words, word, marks):
 def test_decode():
     """Decode against a search of all messages: codewords, codewords with a change, random words."""
     rng = random.Random(2)
-    for code in small_codes(2):
+    for code in itertools.chain(small_codes(2), short_codes(2)):
         words = [(m, encoded(code, m)) for m in all_messages(code)]
         patterns = list(itertools.product((0, 1), repeat=code.n))
         if len(patterns) > 64:
@@ -308,7 +449,8 @@ def test_local_pass():
     """Groups with one loss are mended and counted; all else stays."""
     rng = random.Random(3)
     large = [Code(1, *numbers, wiring) for numbers in ((4, 25, 11), (14, 45, 30)) for wiring in (0, 1)]
-    for code in itertools.chain(small_codes(3), large):
+    large += [Code(1, 4, 23, 11), Code(1, 14, 43, 30), Code(1, 16, 9, 8)]
+    for code in itertools.chain(small_codes(3), short_codes(10), large):
         q = ref.order(code.field)
         true = encoded(code, [rng.randrange(q) for _ in range(code.k)])
         marks = bytearray(rng.choices((0, 1), (3, 1), k=code.n))
@@ -328,7 +470,9 @@ def test_local_pass():
 
 def test_strips():
     rng = random.Random(4)
-    for code, slot in itertools.product((Code(1, 4, 10, 7), Code(1, 4, 10, 7, 1)), range(10)):
+    stripes = [(code, slot) for code in (Code(1, 4, 10, 7), Code(1, 4, 10, 7, 1)) for slot in range(10)]
+    stripes += [(Code(1, 4, 9, 7), slot) for slot in range(9)] + [(Code(1, 14, 8, 7), slot) for slot in range(8)]
+    for code, slot in stripes:
         words = [encoded(code, [rng.randrange(256) for _ in range(7)]) for _ in range(9)]
         strips = b"".join(bytes(w[p] for w in words) for p in ref.mates(code, slot))
         out = bytearray(9)
@@ -337,18 +481,20 @@ def test_strips():
 
 
 def test_lengths():
-    """vectors.py makes good rebuilds of every locality of both fields at every length."""
-    seen, wirings = set(), set()
+    """vectors.py makes good rebuilds of every locality of both fields at every length, and in every short last group."""
+    seen, wirings, short = set(), set(), set()
     for data, refusal in vectors.rebuilds(random.Random(1)):
-        _, _, field, r, _, _, wiring, _, _, strips, given = struct.unpack_from(">11I", data)
+        _, _, field, r, n, _, wiring, slot, _, strips, given = struct.unpack_from(">11I", data)
         (columns,) = struct.unpack_from(">I", data, 44 + given)
-        assert refusal == 0 and strips == r * columns
-        seen.add((field, r, columns))
-        wirings |= {(field, r, wiring), (field, columns, wiring)}
+        mates = r if n % (r + 1) == 0 else n % (r + 1) - 1
+        assert refusal == 0 and strips == mates * columns and (mates == r or slot >= n - mates - 1)
+        (seen if mates == r else short).add((field, r, mates, columns))
+        wirings |= {(field, r, wiring), (field, columns, wiring)} if mates == r else set()
     legal = [(f, r) for f in (0, 1) for r in range(40) if ref.code_refusal(Code(f, r, r + 1, 1)) == 0]
-    assert seen == {(f, r, columns) for f, r in legal for columns in vectors.LENGTHS}
+    assert seen == {(f, r, r, columns) for f, r in legal for columns in vectors.LENGTHS}
+    assert short == {(f, r, mates, c) for f, r in legal for mates in range(1, r) for c in vectors.SHORT_LENGTHS}
     assert {1, 63, 64, 65, 127, 128, 129, 255, 256, 257, 4096} <= set(vectors.LENGTHS)
-    assert {(f, x, w) for f, r, c in seen for x in (r, c) for w in (0, 1)} == wirings
+    assert {(f, x, w) for f, r, _, c in seen for x in (r, c) for w in (0, 1)} == wirings
 
 
 def test_vectors():
@@ -360,7 +506,8 @@ def test_vectors():
         aimed = {pair for i in range(3000) for pair in itertools.permutations(vectors.aims(rng, name, i), 2)}
         assert aimed == set(itertools.permutations(asked, 2)), name
     pairs = [("view", pair) for pair in ((4, 17), (17, 18), (17, 5), (18, 5), (18, 7))]
-    pairs += [(name, pair) for name, asked in vectors.QUESTIONS.items() if 17 in asked for pair in ((4, 17), (17, 5))]
+    others = [name for name, asked in vectors.QUESTIONS.items() if 17 in asked and name not in vectors.READERS]
+    pairs += [(name, pair) for name in others for pair in ((4, 17), (17, 5))]
     for name, pair in pairs:
         for wiring in (0, 1):
             draft = vectors.Draft(rng, name, N._replace(wiring=wiring if name != "view" else 0))
@@ -375,6 +522,42 @@ def test_vectors():
             fields.add(draft.rows[0] >> 24)
             assert draft.finished()[1] == 1
         assert fields == {0x10 + 8 * wiring + field for field in range(2, 8)}
+
+
+def test_short_vectors():
+    """A third of the codes of wiring 0 are short, legal and of every kind; a fault in one gives what it is aimed at."""
+    rng, seen = random.Random(8), set()
+    codes = [vectors.pick_code(rng, None) for _ in range(4000)]
+    codes += [vectors.pick_code(rng, field, short) for field in (0, 1, None) for short in (True, False) for _ in range(300)]
+    assert all(ref.code_refusal(code) == 0 for code in codes)
+    plain = [code for code in codes[:4000] if code.wiring == 0]
+    assert 0.28 < sum(ref.short(code) > 0 for code in plain) / len(plain) < 0.42
+    for code in filter(ref.short, plain):
+        s, m = ref.short(code), ref.groups(code)
+        seen |= {(code.field, code.r, s), ("least", code.k == s - 1), ("most", code.k == code.n - m), ("alone", m == 1)}
+    wanted = {(f, r, s) for f, r in vectors.LOCALITIES for s in range(2, r + 1)}
+    assert seen == wanted | set(itertools.product(("least", "most", "alone"), (True, False)))
+    for name, asked in vectors.QUESTIONS.items():
+        sure = set(asked) - {6, 7, 18}  # a slot that is none may give 5, the others depend on the losses and the wiring
+        for number, _ in itertools.product(sure, range(30)):
+            draft = vectors.Draft(rng, name, vectors.pick_code(rng, None, True))
+            vectors.FAULTS[number](rng, draft)
+            assert draft.finished()[1] == number, (name, number, draft.base)
+
+
+def test_short_mates():
+    """The calls of vectors.py hand over s - 1 mates and r mates, for slots of short groups, of others, and of none."""
+    rng, seen = random.Random(9), set()
+    for index in range(3000):
+        data, refusal = vectors.make_call(rng, "repair", index + len(vectors.CORNERS))
+        code, (slot, _, length) = Code(*struct.unpack_from(">5I", data, 8)), struct.unpack_from(">3I", data, 28)
+        if ref.code_refusal(code) == 0 and ref.short(code):
+            whose = "none" if slot >= code.n else "short" if slot >= code.n - ref.short(code) else "whole"
+            given = "r" if length == code.r else "s - 1" if length == ref.short(code) - 1 else "other"
+            seen.add((whose, given, refusal))
+    good = {(whose, given, answer) for whose, given in (("short", "s - 1"), ("whole", "r")) for answer in (0, 6)}
+    wrong = {("short", "r", 5), ("whole", "s - 1", 5), ("none", "s - 1", 5), ("short", "other", 5), ("whole", "other", 5)}
+    assert seen >= good | wrong | {("none", "r", 7)} and ("none", "s - 1", 7) not in seen
 
 
 def test_order():
@@ -403,12 +586,38 @@ def test_order():
     assert ref.write_sheet(above, word, marks, bytearray(43)) == 17
 
 
+def test_short_order():
+    """Of a short last group 5 wants s - 1 mates, of another r, and r of a slot that is none; 17 comes after 4."""
+    code = Code(0, 3, 7, 4)  # slots 4 5 6 are the last group
+    for slot, count in [(0, 3), (3, 3), (4, 2), (6, 2), (7, 3), (8, 3), (99, 3), (2**32 - 1, 3)]:
+        for length in range(6):
+            wanted = 5 if length != count else 7 if slot > 6 else 6
+            assert ref.repair(code, slot, b"\x0d" * length) == (wanted, 0)
+            assert ref.rebuild(code, slot, b"\x0d" * 5 * length, bytearray(5)) == wanted
+    out = bytearray(16)
+    assert ref.weights(code, 6, out) == 0 and out[2:] == bytes(14) and 0 not in out[:2]
+    assert ref.weights(code, 7, out) == 7 and ref.weights(code, 6, bytearray(2)) == 5
+    for wiring in (1, 2, 2**32 - 1):
+        wrong = code._replace(wiring=wiring)
+        assert ref.repair(wrong, 99, b"") == (17, 0) and ref.view(wrong, 99, b"") == (17, 0)
+        assert ref.repair(wrong._replace(k=1), 99, b"") == (4, 0) and ref.repair(wrong._replace(n=5), 99, b"") == (3, 0)
+    assert ref.view(code, 6, bytes(7)) == (0, 4) and ref.view(code, 7, bytes(7)) == (7, 0)
+    word, marks = bytearray(b"\x0d" * 7), bytearray(marked(7, [5]))
+    assert ref.local_pass(code, word, marks) == (6, 0)
+    word[4] = word[6] = 1
+    assert ref.local_pass(code, word, marks) == (0, 1) and marks == bytes(7) and word[:4] == b"\x0d" * 4
+
+
 def test_record():
     """Ten numbers, with the wiring after k."""
     word, out = encoded(WIRED, ONES), [7] * 10
     for lost, tail in [([1, 4], [2, 4, 2, 1, 0]), ([0, 1], [2, 4, 1, 255, 0]), ([1, 2, 4, 5, 7], [5, 4, 3, 1, 10])]:
         assert ref.record(WIRED, word, marked(9, lost), bytearray(4), bytearray(45), out) == 0
         assert out == [0, 2, 9, 4, 1, *tail]
+    word = encoded(ELEVEN, [1] * 5)
+    for lost, tail in [([9, 10], [2, 4, 2, 3, 0]), ([0, 10], [2, 4, 1, 255, 0]), (range(6, 11), [5, 4, 3, 2, 10])]:
+        assert ref.record(ELEVEN, word, marked(11, lost), bytearray(5), bytearray(66), out) == 0
+        assert out == [0, 2, 11, 5, 0, *tail]
 
 
 def main():

@@ -74,6 +74,27 @@ def samples(rng):
     yield changed(good, 0, 0x18020A04)  # 3
     yield changed(good, 0, 0x18020907)  # 4
     yield good[:-4]  # 13
+    short = (0, 2, 11, 5)
+    yield sheet(*stripe(rng, short, [0, 4, 10]))  # one to a group
+    yield sheet(*stripe(rng, short, [0, 1, 9, 10]))
+    yield sheet(*stripe(rng, short, [0, 5, 8, 9, 10]))
+    yield sheet(*stripe(rng, short, range(6, 11)))  # undecided
+    yield sheet(*stripe(rng, (0, 11, 5, 4), [3]))  # one group
+    yield sheet(*stripe(rng, (1, 4, 8, 5), [5, 7]))
+    yield sheet(*stripe(rng, (1, 4, 8, 5), [0, 5, 6, 7]))  # undecided
+    yield sheet(*stripe(rng, (1, 16, 250, 230), [3, 4, 200, 238, 244, 249]))
+    good = sheet(*stripe(rng, short, []))
+    yield good
+    yield changed(good, 11, 2 << 28 | 10 << 8 | (good[47] + 1) % 13)  # foreign
+    yield changed(good, 0, 0x18020B05)  # 17
+    yield changed(good, 0, 0x18020B05)[:-4]  # 17 before 13
+    yield changed(good, 0, 0x18020B08)  # 4 before 17
+    yield changed(good, 0, 0x10020B08)  # 4
+    yield changed(good, 0, 0x10030B01)  # 4: below s - 1
+    yield changed(good, 0, 0x10020A05)  # 3: one slot in the last group
+    yield changed(good, 0, 0x10020005)  # 3: none
+    yield changed(good, 0, 0x10020E05)  # 3: past q - 1
+    yield changed(good, 0, 0x10020C05)  # 13
 
 
 if __name__ == "__main__":

@@ -3,9 +3,9 @@
     python3 outside/vectors.py SEED COUNT [NAME..] > FILE     COUNT calls of each function but those named, on standard output
 
 The calls are valid, damaged and refused, with one fault or with several at once, over both fields,
-both wirings and the corner codes. Besides come good rebuilds of every locality r of both fields at every length
-where the strip kernel takes another way, unless "lengths" is among the names. A table of how often
-each answer came goes to standard error.
+both wirings, short last groups and the corner codes. Besides come good rebuilds of every locality r of both fields at
+every length where the strip kernel takes another way, and in short last groups with every number of mates, unless
+"lengths" is among the names. A table of how often each answer came goes to standard error.
 
 Format: a row of records and then the number 0. Every number is 32 bits, high byte first.
 
@@ -49,7 +49,7 @@ BUFFERS = {
 }
 CALLS = list(BUFFERS)
 
-# The questions that a fault can be aimed at. A sheet cannot fail 17: its wiring is one bit, and 3 is asked before.
+# The questions that a fault can be aimed at. A sheet fails 17 by a short last group alone: its wiring is one bit.
 QUESTIONS = {
     "encode": (1, 2, 3, 4, 17, 5, 6),
     "weights": (1, 2, 3, 4, 17, 5, 7),
@@ -60,14 +60,15 @@ QUESTIONS = {
     "decode": (1, 2, 3, 4, 17, 5, 6, 8),
     "grade": (1, 2, 3, 4, 17, 5, 8),
     "record": (1, 2, 3, 4, 17, 5, 6, 8),
-    "read_sheet": (1, 2, 3, 4, 5, 6, 11, 12, 13, 14, 15),
+    "read_sheet": (1, 2, 3, 4, 17, 5, 6, 11, 12, 13, 14, 15),
     "write_sheet": (1, 2, 3, 4, 17, 5, 6, 8),
-    "report": (1, 2, 3, 4, 5, 6, 11, 12, 13, 14, 15),
+    "report": (1, 2, 3, 4, 17, 5, 6, 11, 12, 13, 14, 15),
 }
 
 # Every number that each call can answer; the record's outcome and the report's text count too.
 ANSWERS = {name: {0, *numbers} for name, numbers in QUESTIONS.items()}
 SOLVERS = ("decode", "record", "report")
+READERS = ("read_sheet", "report")
 for solver in SOLVERS:
     ANSWERS[solver] |= {9, 10}
 
@@ -92,12 +93,28 @@ CORNERS = [
     Code(1, 2, 9, 5, 1),
     Code(1, 4, 10, 3, 1),
     Code(1, 14, 255, 1, 1),
+    Code(0, 2, 11, 5),
+    Code(0, 3, 6, 2),
+    Code(0, 5, 9, 7),
+    Code(0, 2, 2, 1),
+    Code(0, 3, 3, 2),
+    Code(0, 11, 2, 1),
+    Code(0, 11, 11, 10),
+    Code(1, 4, 8, 5),
+    Code(1, 14, 13, 12),
+    Code(1, 14, 29, 13),
+    Code(1, 16, 2, 1),
+    Code(1, 2, 254, 1),
+    Code(1, 16, 250, 230),
+    Code(1, 16, 254, 239),
 ]
-LARGE = [code for code in CORNERS if code.n == 255]
+LARGE = [code for code in CORNERS if code.n >= 250]
 # the localities of both fields, and the lengths of strips about the edges of the kernel's tiles
 LOCALITIES = [(0, r) for r in (1, 2, 3, 5, 11)] + [(1, r) for r in (2, 4, 14, 16)]
 LENGTHS = (1, 2, 15, 16, 17, 63, 64, 65, 127, 128, 129, 191, 192, 193, 255, 256, 257, 4095, 4096)
+SHORT_LENGTHS = (1, 17, 64, 129, 257)  # of strips in short last groups
 WIRED = 0.45  # the share of codes that have wiring 1
+SHORT = 0.35  # the share of the others whose last group is short
 LARGEST = 2**32 - 1
 LONGEST = 65600  # bytes of a buffer
 TAILS = (1, 3, 4, 5)  # bytes after the longest sheet; the report reads the first four
@@ -184,32 +201,48 @@ def make_record(name, code, slot, buffers):
 # Codes and stripes -------------------------------------------------------------------------------
 
 
-def pick_code(rng, field):
-    """A legal code of either wiring: mostly small, at times a corner or a large one."""
-    return pick_numbers(rng, field)._replace(wiring=1 if rng.random() < WIRED else 0)
+def pick_code(rng, field, short=None):
+    """A legal code of either wiring, or with a short last group: mostly small, at times a corner or a large one."""
+    wired = not short and rng.random() < WIRED
+    if short is None:
+        short = not wired and rng.random() < SHORT
+    return pick_numbers(rng, field, short)._replace(wiring=int(wired))
 
 
-def pick_numbers(rng, field):
-    """A legal code, of whose wiring nothing is said."""
+def pick_numbers(rng, field, short):
+    """A legal code with a short last group or without, of whose wiring nothing else is said."""
+    corners = [c for c in CORNERS if (ref.short(c) > 0) == short and field in (None, c.field)]
     fate = rng.random()
     if fate < 0.003 and field != 0:
-        return rng.choice(LARGE)
+        return rng.choice([c for c in corners if c in LARGE])
     if fate < 0.08:
-        small = [c for c in CORNERS if c.n < 255 and field in (None, c.field)]
-        return rng.choice(small)
+        return rng.choice([c for c in corners if c not in LARGE])
     if field is None:
         field = rng.randrange(2)
-    r = rng.choice([1, 2, 3, 5, 11] if field == 0 else [2, 2, 4, 4, 14, 16])
-    most = 12 // (r + 1) if field == 0 else 1 + 24 // (r + 1)
-    n = (r + 1) * rng.randint(1, most)
-    top = r * n // (r + 1)
-    k = rng.choice([1, top, rng.randint(1, top), rng.randint(1, top), rng.randint(1, top)])
-    return Code(field, r, n, k)
+    r = rng.choice([2, 3, 5, 11] + [1] * (not short) if field == 0 else [2, 2, 4, 4, 14, 16])
+    groups = rng.randint(1, 12 // (r + 1) if field == 0 else 1 + 24 // (r + 1))
+    return Code(field, r, *pick_size(rng, r, groups, rng.randint(2, r) if short else r + 1))
+
+
+def pick_size(rng, r, groups, last):
+    """n and a legal k for so many groups, of which the last has so many members."""
+    n = (r + 1) * (groups - 1) + last
+    least, top = 1 if last == r + 1 else last - 1, n - groups
+    return n, rng.choice([least, top, rng.randint(least, top), rng.randint(least, top), rng.randint(least, top)])
+
+
+def last_slots(code):
+    """The slots of a short last group."""
+    return range(code.n - ref.short(code), code.n)
+
+
+def pick_slot(rng, code):
+    """Any slot, every other time one of a short last group."""
+    return rng.choice(last_slots(code) if ref.short(code) and rng.random() < 0.5 else range(code.n))
 
 
 def symbols(rng, code, count):
-    q = ref.order(code.field)
-    return bytes(rng.randrange(q) for _ in range(count))
+    return bytes(rng.choices(range(ref.order(code.field)), k=count))
 
 
 def codeword(rng, code):
@@ -219,9 +252,10 @@ def codeword(rng, code):
 
 
 def pick_marks(rng, code):
-    """Losses: none, up to the guarantee, one to a group, whole groups, any, or all."""
+    """Losses: none, up to the guarantee, one to a group, whole groups, any, all, or in a short last group alone."""
     sure, lost = ref.guarantee(code), []
-    shape = rng.choice(["none", "sure", "sure", "single", "single", "groups", "any", "any", "all"])
+    shapes = ["none", "sure", "sure", "single", "single", "groups", "any", "any", "all"]
+    shape = rng.choice(shapes + ["last", "last"] * (ref.short(code) > 0))
     if shape == "sure":
         lost = rng.sample(range(code.n), rng.randint(1, sure))
     elif shape == "single":
@@ -234,6 +268,8 @@ def pick_marks(rng, code):
         lost = [p for p in range(code.n) if rng.random() < share]
     elif shape == "all":
         lost = range(code.n)
+    elif shape == "last":
+        lost = rng.sample(last_slots(code), rng.randint(1, ref.short(code)))
     marks = bytearray(code.n)
     for p in lost:
         marks[p] = 1
@@ -264,15 +300,17 @@ def single_groups(code, marks):
 class Draft:
     """A call that passes its questions, before faults are put in."""
 
-    def __init__(self, rng, name, code, columns=0):
+    def __init__(self, rng, name, code, columns=0, slot=None):
         self.columns = columns
         self.rng, self.name, self.code, self.base = rng, name, code, code
-        self.slot = rng.randrange(code.n) if name in ("weights", "repair", "rebuild", "view") else 0
+        self.slot = 0 if slot is None else slot
+        if slot is None and name in ("weights", "repair", "rebuild", "view"):
+            self.slot = pick_slot(rng, code)
         self.word, self.marks = (bytearray(), bytearray())
         if "word" in BUFFERS[name] or "marks" in BUFFERS[name] or name == "report":
             self.word, self.marks = pick_stripe(rng, code, 0.1 if name in SOLVERS else 0.9)
         self.rows = []
-        if name in ("read_sheet", "report"):
+        if name in READERS:
             self.rows = sheet_rows(code, self.word, self.marks)
         self.tail = b""  # bytes after the rows
         self.cut = 0  # bytes cut off at the end
@@ -283,15 +321,19 @@ class Draft:
         if kind == "message" and self.name == "encode":
             return Buffer(symbols(rng, code, code.k))
         if kind == "mates":
-            return Buffer(symbols(rng, code, code.r))
+            return Buffer(symbols(rng, code, self.mates()))
         if kind == "strips":
             self.columns = self.columns or pick_columns(rng, code)
-            return Buffer(symbols(rng, code, code.r * self.columns))
+            return Buffer(symbols(rng, code, self.mates() * self.columns))
         if kind in ("word", "marks") and self.name != "read_sheet":
             return Buffer(getattr(self, kind))
         if kind in ("sheet", "input") and self.name != "write_sheet":
             return Buffer(b"")  # made at the end, from the rows
         return blank(rng, self.length(kind))
+
+    def mates(self):
+        """The number of mates that are wanted now."""
+        return ref.mates_wanted(self.base, self.slot)
 
     def length(self, kind):
         """The length of an output buffer."""
@@ -312,7 +354,7 @@ class Draft:
         }[kind]
 
     def finished(self):
-        if self.name in ("read_sheet", "report"):
+        if self.name in READERS:
             data = b"".join(numbers(row) for row in self.rows) + self.tail
             kind = "sheet" if self.name == "read_sheet" else "input"
             self.buffers[kind] = Buffer(data[: len(data) - self.cut])
@@ -363,22 +405,27 @@ def fault_r(rng, draft):
 
 
 def fault_n(rng, draft):
+    """No slots, a last group of one, or past q - 1, with whole groups or a short one."""
     base = draft.base
     size, most = base.r + 1, ref.order(base.field) - 1
-    past = [most + size, most + 2 * size, 2**16 * size, 2**32 // size * size - size]
-    near = [base.n - 1, base.n + 1, base.n + size // 2]
-    replace(rng, draft, "n", [0, 13, 254, 256, 510, LARGEST, *near, *past])
+    past = [most + size, most + 2 * size, 2**16 * size, 2**32 // size * size - size, most + 2, 2**16 * size + 2]
+    near = [base.n - 1, base.n + 1, base.n + size // 2, base.n // size * size + 1]
+    alone = [1, size + 1, most - size + 1, size * rng.randrange(1, most // size + 1) + 1]
+    replace(rng, draft, "n", [0, 13, 254, 256, 510, LARGEST, *near, *past, *alone])
 
 
 def fault_k(rng, draft):
+    """Below the least, s - 1 with a short last group, or above the largest, one a slot but one a group."""
     base = draft.base
-    top = base.r * base.n // (base.r + 1)
-    near = [top + 1, top + 2, base.n, base.n + 1, base.k + 256]
+    least, top = max(1, ref.short(base) - 1), base.n - ref.groups(base)
+    near = [least - 1, top + 1, top + 2, base.n, base.n + 1, base.k + 256]
     replace(rng, draft, "k", [0, 255, 256, 2**31, LARGEST, *near])
 
 
 def fault_wiring(rng, draft):
-    replace(rng, draft, "wiring", [2, 3, 4, 128, 255, 256, 257, 2**16, 2**31, LARGEST - 1, LARGEST])
+    """Above 1, or 1 with a short last group."""
+    values = [2, 3, 4, 128, 255, 256, 257, 2**16, 2**31, LARGEST - 1, LARGEST]
+    replace(rng, draft, "wiring", values + [1] * len(values))
 
 
 def fault_wired(rng, draft):
@@ -388,23 +435,25 @@ def fault_wired(rng, draft):
 
 def fault_length(rng, draft):
     """A wrong length of one buffer."""
-    kinds = list(draft.buffers)
-    kind = rng.choice(kinds[1:] if draft.name in ("read_sheet", "report") else kinds)
+    kinds, base = list(draft.buffers), draft.base
+    kind = rng.choice(kinds[1:] if draft.name in READERS else kinds)
     have = len(draft.buffers[kind].data)
-    used = draft.base.n * (draft.base.k + 1)
+    used = base.n * (base.k + 1)
     lengths = [0, have - 1, have + 1, 2 * have, have + 256]
     if kind in ("record", "code"):
         lengths = [0, 4, have - 4, have + 4, 2 * have]
     if kind == "work":
-        lengths = [0, used - 1, used - draft.base.n, rng.randrange(used)]
+        lengths = [0, used - 1, used - base.n, rng.randrange(used)]
     if kind == "text":
         lengths = [0, 10, 1031, rng.randrange(1032)]
     if kind in ("word", "marks") and draft.name == "read_sheet":
-        lengths = [0, 254, draft.base.n - 1, rng.randrange(255)]
+        lengths = [0, 254, base.n - 1, rng.randrange(255)]
     if kind == "strip" and rng.random() < 0.3:
         columns = rng.choice([0, 0, 0, 4097])
-        draft.buffers["strips"] = draft.buffers["strips"].resized(draft.base.r * columns)
+        draft.buffers["strips"] = draft.buffers["strips"].resized(draft.mates() * columns)
         lengths = [columns]
+    if kind in ("mates", "strips") and ref.short(base):  # as many as a slot of another group wants
+        lengths += [count * (draft.columns or 1) for count in (base.r, ref.short(base) - 1)] * 3
     lengths = [v for v in lengths if v != have and 0 <= v <= LONGEST]
     draft.buffers[kind] = draft.buffers[kind].resized(rng.choice(lengths))
 
@@ -437,8 +486,12 @@ def fault_symbol(rng, draft):
 
 
 def fault_slot(rng, draft):
-    n = draft.base.n
+    """A slot that is none; where its buffer has the mates of a short group it mostly gets r, which 5 wants now."""
+    n, r, count = draft.base.n, draft.base.r, draft.mates() * (draft.columns or 1)
     draft.slot = rng.choice([n, n + 1, 255, 256, n + rng.randrange(300), n + 256, 2**31, LARGEST])
+    for kind in ("mates", "strips"):
+        if kind in draft.buffers and len(draft.buffers[kind].data) == count and rng.random() < 0.7:
+            draft.buffers[kind] = draft.buffers[kind].resized(r * (draft.columns or 1))
 
 
 def fault_mark(rng, draft):
@@ -554,7 +607,8 @@ def make_call(rng, name, index):
         draft.tail = rng.randbytes(TAILS[late])
     else:
         aimed = aims(rng, name, late)
-        code = pick_code(rng, 0 if 6 in aimed else None)
+        short = True if 17 in aimed and name in READERS else False if 18 in aimed else None
+        code = pick_code(rng, 0 if 6 in aimed else None, short)
         draft = Draft(rng, name, code._replace(wiring=0) if name == "view" else code)  # 18 is aimed at, else 5 and 7 hide
     if rng.random() < 0.3:
         unread(rng, draft)
@@ -564,11 +618,21 @@ def make_call(rng, name, index):
 
 
 def rebuilds(rng):
-    """Good rebuilds: of every locality, one at each length, of any slot, by the wirings in turn."""
+    """Good rebuilds: of every locality, one at each length, of any slot, by the wirings in turn; and some in short groups."""
     for turn, ((field, r), columns) in enumerate(itertools.product(LOCALITIES, LENGTHS)):
-        n = (r + 1) * rng.randint(1, (ref.order(field) - 1) // (r + 1))
-        code = Code(field, r, n, rng.randint(1, r * n // (r + 1)), turn % 2)
+        groups = rng.randint(1, (ref.order(field) - 1) // (r + 1))
+        code = Code(field, r, *pick_size(rng, r, groups, r + 1), turn % 2)
         yield Draft(rng, "rebuild", code, columns).finished()
+    yield from short_rebuilds(rng)
+
+
+def short_rebuilds(rng):
+    """Of every locality and every number of mates in a short last group, one at each of some lengths."""
+    for field, r in LOCALITIES:
+        for s, columns in itertools.product(range(2, r + 1), SHORT_LENGTHS):
+            groups = rng.randint(1, (ref.order(field) - 1) // (r + 1))
+            code = Code(field, r, *pick_size(rng, r, groups, s))
+            yield Draft(rng, "rebuild", code, columns, rng.choice(last_slots(code))).finished()
 
 
 def main():
