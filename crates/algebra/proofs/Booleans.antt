@@ -1,6 +1,7 @@
 -- Tests that hold, and tests that do not. Assumes nothing.
 --   so, yes-true, no-false           a test and what it comes to
 --   and-left, and-right, and-both    two tests hold
+--   and-no-left, and-no-right        one of two does not
 --   or-left, or-right                one of two tests holds
 --   differ                           true is not false
 use mathlib.Core.Path.{_≡_, refl}
@@ -29,6 +30,13 @@ and-right false b t = absurd t
 pub and-both : (a b : Bool) → T a → T b → T (a && b)
 and-both true b s t = t
 and-both false b s t = absurd s
+
+pub and-no-left : (a b : Bool) → a ≡ false → a && b ≡ false
+and-no-left a b e = rw e refl
+
+pub and-no-right : (a b : Bool) → b ≡ false → a && b ≡ false
+and-no-right true b e = e
+and-no-right false b e = refl
 
 pub or-left : (a b : Bool) → T a → T (a || b)
 or-left true b t = tt

@@ -1,6 +1,7 @@
--- Where the power g of x is y, the terms of a message at the exponents raised r g are a polynomial with r coefficients: each the
--- value at y of the polynomial of every r-th symbol. Assumes nothing.
---   folded-is    so they are
+-- Sums in blocks of r are polynomials with r coefficients: each the value at y of the polynomial of every r-th symbol. Where the power g of x
+-- is y, the terms of a message at the exponents raised r g are such sums. Assumes nothing.
+--   folded         so they are
+--   terms-based    terms are such sums
 use mathlib.Core.Path.{_≡_, refl, sym, ap, ap₂, _∙_, subst}
 use mathlib.Core.Logic.{_≢_}
 use mathlib.Core.Bool.{cond}
@@ -17,6 +18,7 @@ use Rattle.algebra.proofs.Ring.{nil-add, mul-nil, unit-mul, pow-add, po
 use Rattle.algebra.proofs.Tabulate.{tabulate-same}
 use Rattle.algebra.proofs.Monomials.{terms, spread, eval-spread}
 use Rattle.algebra.proofs.Locality.{raised}
+use Rattle.algebra.proofs.Based.{based}
 use Rattle.algebra.proofs.Strands.{strand-own, strand-other, turns, turns-none, turns-own, turns-next, turns-other}
 
 module _ (R : Ring) (r : ℕ) (r-least : 1 ≤ r) (y : R .El) where
@@ -38,13 +40,18 @@ module _ (R : Ring) (r : ℕ) (r-least : 1 ≤ r) (y : R .El) where
       pow-add R x (m / r * g) (m % r)
       ∙ ap (λ n. n ⊗ pow R x (m % r)) (ap (λ n. pow R x n) (mul-comm-ℕ (m / r) g) ∙ sym (pow-mul R x g (m / r)) ∙ ap (λ n. pow R n (m / r)) e)
 
-  terms-weighed : (d : ℕ → ℕ) (g : ℕ) (x : El) → ((m : ℕ) → d m ≡ raised r g m) → pow R x g ≡ y → (m : ℕ) (ss : List El)
-      → terms R d x m ss ≡ terms R place x m (weighed m ss)
-  unfolding terms weighed place
-  terms-weighed d g x h e m [] = refl
-  terms-weighed d g x h e m (s ∷ ss) =
-      ap₂ _⊕_ (ap (λ n. s ⊗ n) (ap (pow R x) (h m) ∙ raised-pow g x e m) ∙ sym (mul-assoc s (pow R y (m / r)) (pow R x (m % r))))
-      (terms-weighed d g x h e (suc m) ss)
+  pub terms-based : (d : ℕ → ℕ) (g : ℕ) (x : El) → ((m : ℕ) → d m ≡ raised r g m) → pow R x g ≡ y → (m : ℕ) (ss : List El)
+      → terms R d x m ss ≡ based R r r-least y x m ss
+  unfolding terms based
+  terms-based d g x h e m [] = refl
+  terms-based d g x h e m (s ∷ ss) =
+      ap₂ _⊕_ (ap (λ n. s ⊗ n) (ap (pow R x) (h m) ∙ raised-pow g x e m)) (terms-based d g x h e (suc m) ss)
+
+  based-weighed : (x : El) (m : ℕ) (ss : List El) → based R r r-least y x m ss ≡ terms R place x m (weighed m ss)
+  unfolding terms weighed place based
+  based-weighed x m [] = refl
+  based-weighed x m (s ∷ ss) =
+      ap₂ _⊕_ (sym (mul-assoc s (pow R y (m / r)) (pow R x (m % r)))) (based-weighed x (suc m) ss)
 
   regroup : (p s v : El) → s ⊗ p ⊕ (y ⊗ p) ⊗ v ≡ p ⊗ (s ⊕ y ⊗ v)
   regroup p s v = cc (mul-add p s (y ⊗ v), mul-comm p s, mul-assoc p y v, mul-comm p y)
@@ -78,10 +85,9 @@ module _ (R : Ring) (r : ℕ) (r-least : 1 ≤ r) (y : R .El) where
       go (yes e) d = subst (λ j. Turned j m (s ∷ ss)) (sym e) (turned-own m s ss (subst (λ j. Turned j (suc m) ss) e d))
       go (no n) d = turned-other i m s ss h n d
 
-  pub folded-is : (d : ℕ → ℕ) (g : ℕ) (x : El) → ((m : ℕ) → d m ≡ raised r g m) → pow R x g ≡ y → (ss : List El)
-      → terms R d x 0 ss ≡ eval R (tabulate (λ i. eval R (strand r i 0 ss) y) r) x
+  pub folded : (x : El) (ss : List El) → based R r r-least y x 0 ss ≡ eval R (tabulate (λ i. eval R (strand r i 0 ss) y) r) x
   unfolding place tabulate pow
-  folded-is d g x h e ss =
-      terms-weighed d g x h e 0 ss ∙ sym (eval-spread R place x r 0 (weighed 0 ss) (λ i a b. mod-lt i r-least))
+  folded x ss =
+      based-weighed x 0 ss ∙ sym (eval-spread R place x r 0 (weighed 0 ss) (λ i a b. mod-lt i r-least))
       ∙ ap (λ cs. eval R cs x) (tabulate-same 𝟘 (spread R place 0 (weighed 0 ss)) (λ i. eval R (strand r i 0 ss) y) r
       (λ i b. turned i b 0 ss ∙ ap (λ n. pow R y n ⊗ eval R (strand r i 0 ss) y) (turns-none r i r-least) ∙ unit-mul R (eval R (strand r i 0 ss) y)))

@@ -29,6 +29,7 @@ pub mod Mixed
 pub mod Triangular
 pub mod Shortened
 pub mod Strands
+pub mod Based
 pub mod Folding
 pub mod Scattered
 pub mod Splicing

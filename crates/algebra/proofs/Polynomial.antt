@@ -1,5 +1,5 @@
 -- Polynomials: division by X - a, roots, differences, and functions that are polynomials. Assumes nothing.
---   divides          p(x) + a e(x) = p(a) + x e(x), e the quotient by X - a
+--   div, divides     p(x) + a e(x) = p(a) + x e(x), e the quotient by X - a
 --   roots            as many different roots as coefficients: all coefficients are 0
 --   roots-counted    the same, with the roots counted over places
 --   eval-diff, length-diff, length-diff-same, eq-of-diff
@@ -10,7 +10,7 @@ use mathlib.Core.Path.{_≡_, refl, sym, ap, ap₂, _∙_}
 use mathlib.Core.Logic.{_≢_}
 use mathlib.Core.Bool.{Bool}
 use mathlib.Core.List.{List, [], _∷_}
-use Prim.Native.Nat.{ℕ, zero, suc, _-_, _≤_, _<_, zero-le, suc-le-suc}
+use Prim.Native.Nat.{ℕ, zero, suc, _≤_, _<_, zero-le, suc-le-suc}
 use native.Mathlib.Nat.{le-refl, not-suc-le-zero, le-of-suc-le-suc}
 use native.Mathlib.Omega.{arith}
 use lib.Dec.{T}
@@ -34,11 +34,11 @@ module _ (R : Ring) where
   eval-zeros (c ∷ cs) z x = ap₂ _⊕_ (z .0) (ap (λ n. x ⊗ n) (eval-zeros cs (z .1) x) ∙ mul-nil R x) ∙ add-nil 𝟘
 
   -- c + X p(X) is its value at a, and X - a times this
-  div : El → List El → List El
+  unfoldable pub div : El → List El → List El
   div a [] = []
   div a (c ∷ cs) = eval R (c ∷ cs) a ∷ div a cs
 
-  length-div : (a : El) (cs : List El) → length (div a cs) ≡ length cs
+  pub length-div : (a : El) (cs : List El) → length (div a cs) ≡ length cs
   unfolding div
   length-div a [] = refl
   length-div a (c ∷ cs) = ap suc (length-div a cs)
@@ -46,7 +46,7 @@ module _ (R : Ring) where
   regroup : (c x a p v e : El) → (c ⊕ x ⊗ p) ⊕ a ⊗ (v ⊕ x ⊗ e) ≡ (c ⊕ a ⊗ v) ⊕ x ⊗ (p ⊕ a ⊗ e)
   regroup c x a p v e = simp (mul-add, add-assoc, add-left-comm R, mul-left-comm R)
 
-  divides : (c : El) (cs : List El) (x a : El) → eval R (c ∷ cs) x ⊕ a ⊗ eval R (div a cs) x ≡ eval R (c ∷ cs) a ⊕ x ⊗ eval R (div a cs) x
+  pub divides : (c : El) (cs : List El) (x a : El) → eval R (c ∷ cs) x ⊕ a ⊗ eval R (div a cs) x ≡ eval R (c ∷ cs) a ⊕ x ⊗ eval R (div a cs) x
   unfolding eval div
   divides c [] x a =
       ap₂ _⊕_ (ap (λ n. c ⊕ n) (mul-nil R x ∙ sym (mul-nil R a))) (mul-nil R a ∙ sym (mul-nil R x))

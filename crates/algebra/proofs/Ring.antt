@@ -1,5 +1,5 @@
 -- What follows from the laws of commutative rings and fields. Assumes nothing.
---   add-cancel, sub-self, eq-of-sub, sub-is, mul-nil    one operation
+--   add-cancel, sub-self, eq-of-sub, sub-is, sub-add-of, mul-nil    one operation
 --   add-mul, mul-sub, sub-mul, *-interchange            two
 --   pow-add, pow-mul, pow-unit                          powers
 --   no-divisors, pow-nonzero, same-multiple, root-is    fields
@@ -48,6 +48,9 @@ module _ (R : Ring) where
   -- a difference is what with b makes a
   pub sub-is : (a b c : El) → c ⊕ b ≡ a → a ⊖ b ≡ c
   sub-is a b c e = add-cancel (a ⊖ b) c b (sub-add a b ∙ sym e)
+
+  pub sub-add-of : (a c : El) → a ⊖ c ≡ a ⊕ (𝟘 ⊖ c)
+  sub-add-of a c = sub-is a c (a ⊕ (𝟘 ⊖ c)) (add-assoc a (𝟘 ⊖ c) c ∙ ap (λ n. a ⊕ n) (sub-add 𝟘 c) ∙ add-nil a)
 
   pub mul-nil : (a : El) → a ⊗ 𝟘 ≡ 𝟘
   mul-nil a = add-cancel (a ⊗ 𝟘) 𝟘 (a ⊗ 𝟘) (sym (mul-add a 𝟘 𝟘) ∙ ap (λ n. a ⊗ n) (add-nil 𝟘) ∙ sym (nil-add (a ⊗ 𝟘)))

@@ -1,6 +1,6 @@
 -- Every r-th entry of a list, taken from its end to its front. Assumes nothing.
 --   strand-own, strand-other    one entry more in front: it joins the strand of its place and no other
---   strand-map, map-tabulate    a map before or after
+--   strand-map, map-tabulate, map-take, map-drop    a map before or after
 --   before-place                the place of entry m in its block of r, from that of entry m + 1
 --   turns r m i                 == how many of the entries before entry m stand at place i of their block
 --   turns-none, turns-own, turns-next, turns-other
@@ -15,6 +15,7 @@ use native.Mathlib.Omega.{arith}
 use borrow.Author.Tests.{eq-eqb, ne-eqb}
 use lib.Arith.{digits-div, digits-mod}
 use lib.Dec.{eqb}
+use lib.ListN.{take, drop}
 use Rattle.algebra.specs.Sequence.{tabulate-from, tabulate}
 use Rattle.algebra.specs.Strand.{strand}
 
@@ -46,6 +47,16 @@ module _ {A B : Type 0} (f : A → B) where
   pub map-tabulate : (g : ℕ → A) (n : ℕ) → map f (tabulate g n) ≡ tabulate (λ j. f (g j)) n
   unfolding tabulate
   map-tabulate g n = map-from g n 0
+
+  pub map-take : (n : ℕ) (xs : List A) → take n (map f xs) ≡ map f (take n xs)
+  map-take zero xs = refl
+  map-take (suc n) [] = refl
+  map-take (suc n) (x ∷ xs) = ap (λ ys. f x ∷ ys) (map-take n xs)
+
+  pub map-drop : (n : ℕ) (xs : List A) → drop n (map f xs) ≡ map f (drop n xs)
+  map-drop zero xs = refl
+  map-drop (suc n) [] = refl
+  map-drop (suc n) (x ∷ xs) = map-drop n xs
 
 unfoldable pub turns : (r m i : ℕ) → ℕ
 turns r m i = (m + (r - 1 - i)) / r

@@ -1,5 +1,5 @@
 -- Lists made of a function on the numbers below a bound. Assumes nothing.
---   length-tabulate, at-tabulate     length and entries
+--   length-tabulate, at-tabulate     length and entries; length-from, from a number on
 --   tabulate-is, tabulate-same       a list with these entries; two functions that agree
 --   length-table, at-table           length and entries of a list that is such a list
 --   tabulate-suc                     one entry more, at the end
@@ -15,7 +15,7 @@ use lib.Seq.{ext-getD}
 use Rattle.algebra.specs.Sequence.{at, tabulate-from, tabulate, Each}
 
 module _ {A : Type 0} (f : ℕ → A) where
-  length-from : (l i : ℕ) → length (tabulate-from f l i) ≡ l
+  pub length-from : (l i : ℕ) → length (tabulate-from f l i) ≡ l
   unfolding tabulate-from
   length-from zero i = refl
   length-from (suc l) i = ap suc (length-from l (suc i))

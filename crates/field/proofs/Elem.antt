@@ -3,7 +3,7 @@
 --   el f n                           a number as an element: itself where it is below q
 --   zero-below, el-zero, zero-of     0 as an element, and back
 --   one-not-zero, minus-one-is       1 and -1
---   times-zero, zero-times, zero-plus, plus-times-zero    0 on numbers
+--   times-zero, zero-times, zero-plus, plus-times-zero, one-times    0 and 1 on numbers
 --   gen f                            the generator γ
 --   pow-is, power-below, gen-whole   powers
 use mathlib.Core.Path.{_≡_, refl, sym, ap, _∙_}
@@ -16,7 +16,7 @@ use native.Mathlib.Decide.{ℕ-discrete}
 use native.Mathlib.Omega.{arith}
 use Rattle.field.specs.Field.{q, γ, plus, minus, times, power, inverse}
 use Rattle.algebra.specs.Ring.{Ring, Field, pow}
-use Rattle.algebra.proofs.Ring.{pow-mul, pow-unit, mul-nil, nil-mul, nil-add}
+use Rattle.algebra.proofs.Ring.{pow-mul, pow-unit, mul-nil, nil-mul, nil-add, unit-mul}
 use Rattle.field.proofs.Generator.{last-test, power-of}
 use Rattle.field.proofs.Laws.{laws}
 
@@ -124,7 +124,7 @@ module _ (f : ℕ) where
   pub minus-one-is : el (minus f 0 1) ≡ ring-of f .sub 𝟘 𝟙
   minus-one-is = same f _ _ (el-is (minus f 0 1) (laws f .minus-below 0 1))
 
-  -- 0 on numbers
+  -- 0 and 1 on numbers
   pub times-zero : (k : ℕ) → k < q f → times f k 0 ≡ 0
   times-zero k h = ap (λ x. x .0) (mul-nil (ring-of f) (k, h))
 
@@ -136,6 +136,9 @@ module _ (f : ℕ) where
 
   pub plus-times-zero : (a k : ℕ) → a < q f → k < q f → plus f a (times f k 0) ≡ a
   plus-times-zero a k h l = ap (plus f a) (times-zero k l) ∙ laws f .plus-zero a h
+
+  pub one-times : (a : ℕ) → a < q f → times f 1 a ≡ a
+  one-times a h = ap (λ x. x .0) (unit-mul (ring-of f) (a, h))
 
   abbrev pub field-of : Field
   field-of = record { ring = ring-of f; inv = inv; mul-inv = mul-inv }

@@ -1,6 +1,6 @@
 -- Lists of numbers below q as elements of the field, and back: lists, entries, polynomials and sums of products. Assumes nothing.
 --   els f xs, nums f es    == the numbers of xs as elements; the elements of es as numbers
---   nums-els, els-nums, els-injective, nums-below
+--   nums-els, els-append, els-nums, els-injective, nums-below
 --   zeros-of-nums, nums-of-zeros    lists of zeros
 --   el-at f xs m           == entry m of xs as an element
 --   listed f k y           == the first k values of y as numbers; length-listed, at-listed, listed-below, el-at-listed
@@ -8,7 +8,7 @@
 --   poly-nums, poly-els, poly-value, poly-below    polynomials on numbers are polynomials over the field
 --   dotted-is              sums of products on numbers are sums over the field
 use mathlib.Core.Path.{_≡_, refl, sym, ap, ap₂, _∙_}
-use mathlib.Core.List.{List, [], _∷_, map}
+use mathlib.Core.List.{List, [], _∷_, _++_, map}
 use Prim.Native.Nat.{ℕ, zero, suc, _+_, _≤_, _<_}
 use native.Mathlib.Nat.{add-zero}
 use native.Mathlib.Omega.{arith}
@@ -44,6 +44,10 @@ module _ (f : ℕ) where
 
   pub els-injective : (xs ys : List ℕ) → T (all-below (q f) xs) → T (all-below (q f) ys) → els xs ≡ els ys → xs ≡ ys
   els-injective xs ys s t e = sym (nums-els xs s) ∙ ap nums e ∙ nums-els ys t
+
+  pub els-append : (xs ys : List ℕ) → els (xs ++ ys) ≡ els xs ++ els ys
+  els-append [] ys = refl
+  els-append (x ∷ xs) ys = ap (λ zs. el f x ∷ zs) (els-append xs ys)
 
   pub els-nums : (es : List (Elem f)) → els (nums es) ≡ es
   els-nums [] = refl

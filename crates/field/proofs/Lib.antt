@@ -8,3 +8,4 @@ pub mod Elements
 pub mod Operations
 pub mod Products
 pub mod Quotients
+pub mod Values

@@ -1,4 +1,5 @@
 -- Sums of products over the first entries of two lists. Assumes nothing.
+--   dotted-below   the sum is below q
 --   dotted-none    of no entry
 --   dotted-last    one entry more, at the end
 --   dotted-stop, dotted-take    the sum stops with the first list
@@ -10,9 +11,16 @@ use native.Mathlib.Omega.{arith}
 use lib.ListN.{length, take}
 use lib.Seq.{take-length}
 use Rattle.algebra.specs.Sequence.{at}
-use Rattle.field.specs.Field.{plus, times}
+use Rattle.field.specs.Field.{q, plus, times}
 use Rattle.field.specs.Polynomial.{dotted}
 use Rattle.field.proofs.Laws.{laws}
+use Rattle.field.proofs.Elem.{zero-below}
+
+pub dotted-below : (f : ℕ) (us xs : List ℕ) → dotted f us xs < q f
+unfolding dotted
+dotted-below f [] xs = zero-below f
+dotted-below f (u ∷ us) [] = zero-below f
+dotted-below f (u ∷ us) (x ∷ xs) = laws f .plus-below (times f u x) (dotted f us xs)
 
 pub dotted-none : (f : ℕ) (a b : List ℕ) → 0 ≡ dotted f (take 0 a) (take 0 b)
 unfolding dotted
