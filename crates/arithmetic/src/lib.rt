@@ -1,7 +1,9 @@
-// The operations on symbols, in both fields.
+// The operations on symbols, and on rows of them, in both fields.
 ghost use mathlib.Core.Path.{_≡_};
 ghost use Prim.Native.Nat.{_≤_};
 ghost use lib.ListN.{length, take};
+ghost use Rattle.algebra.specs.Sequence.{at};
+ghost use Rattle.algebra.specs.Writing.{Written};
 ghost use Rattle.field.specs.Field.{plus, minus, times, power, inverse, doubled};
 ghost use Rattle.field.specs.Polynomial.{dotted};
 ghost use Rattle.field.specs.Table.{Powers, Logs};
@@ -127,4 +129,18 @@ pub fn dot(field: u32, a: &[u8], b: &[u8], n: usize, powers: &[u8; 255], logs: &
         i += 1;
     }
     sum
+}
+
+// The target plus c times the source, at the places from `from` up to `to`: no table, so that the compiler makes vectors.
+pub fn add_scaled(field: u32, target: &mut [u8], source: &[u8], from: usize, to: usize, c: u8)
+    requires { ⌜ (from ≤ to) × (to ≤ length (now target)) × (to ≤ length (now source)) ⌝ }
+    ensures { λ _. ⌜ Written (λ p. plus field (at (now (target .entry)) p) (times field c (at (now (source .entry)) p))) from to (now (target .entry)) (now (target .exit)) ⌝ }
+{
+    let mut p = from;
+    while p < to {
+        let s = product(field, c, source[p]);
+        let v = add(field, target[p], s);
+        target[p] = v;
+        p += 1;
+    }
 }

@@ -21,7 +21,7 @@ use Rattle.field.proofs.Elem.{Elem, same, ring-of, inv, field-of, zero-below, t
 use Rattle.field.proofs.Elements.{poly-below}
 use Rattle.interpolation.specs.Step.{Multiplied, kept, Nodes, Rooms, Newton}
 use Rattle.interpolation.proofs.Marks.{kept-no, kept-yes}
-use Rattle.interpolation.proofs.Values.{poly-add-scaled, poly-times-linear}
+use Rattle.field.proofs.Values.{poly-add-scaled, poly-times-linear}
 
 module _ (f n : ℕ) (xs ws ms : List ℕ) (i c : ℕ) where
   pub place-skipped : (cs ns vs rs : List ℕ) → at ms i ≡ 1 → Newton f n xs ws ms i c cs ns vs rs → Newton f n xs ws ms (i + 1) c cs ns vs rs
@@ -102,10 +102,10 @@ module _ (f n : ℕ) (xs ws ms : List ℕ) (i c : ℕ) where
     -- the values
     cs-value : (x : ℕ) → x < q f → poly f cs′ x ≡ plus f (poly f cs x) (times f k (poly f ns x))
     cs-value x hx =
-        poly-add-scaled f k x k-below hx cs′ cs ns (A .size ∙ S .cs-size) (S .cs-size) (S .ns-size) (N .cs-below) (N .ns-below) cs-at
+        poly-add-scaled f 256 k x k-below hx cs′ cs ns (A .size ∙ S .cs-size) (S .cs-size) (S .ns-size) (N .cs-below) (N .ns-below) cs-at
 
     ns-value : (x : ℕ) → x < q f → poly f ns′ x ≡ times f (minus f x (at xs i)) (poly f ns x)
-    ns-value x hx = poly-times-linear f (at xs i) x y-below hx ns′ ns (D .size ∙ S .ns-size) (S .ns-size) ns′-below (N .ns-below) ns-first ns-next
+    ns-value x hx = poly-times-linear f 256 (at xs i) x y-below hx ns′ ns (D .size ∙ S .ns-size) (S .ns-size) ns′-below (N .ns-below) ns-first ns-next
 
     -- at place i
     vs-i : at vs i ≡ poly f ns (at xs i)

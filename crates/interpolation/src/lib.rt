@@ -27,20 +27,6 @@ fn block_start(n: usize) -> usize
     n / 64 * 64
 }
 
-// The target plus c times the source, at the places from `from` up to `to`.
-fn add_scaled(field: u32, target: &mut [u8; 256], source: &[u8; 256], from: usize, to: usize, c: u8)
-    requires { ⌜ (length (now target) ≡ 256) × (from ≤ to) × (to ≤ 256) ⌝ }
-    ensures { λ _. ⌜ Written (λ p. plus field (at (now (target .entry)) p) (times field c (at (now (source .entry)) p))) from to (now (target .entry)) (now (target .exit)) ⌝ }
-{
-    let mut p = from;
-    while p < to {
-        let s = arithmetic::product(field, c, source[p]);
-        let v = arithmetic::add(field, target[p], s);
-        target[p] = v;
-        p += 1;
-    }
-}
-
 // Each value times the difference of its point and y, at the places from `from` up to `to`.
 fn mul_differences(
     field: u32,
@@ -153,8 +139,8 @@ fn advance(
     let m = block_end(c + 1);
     let start = block_start(i);
     let end = block_end(n);
-    add_scaled(field, coefs, basis, 0, m, k);
-    add_scaled(field, rests, values, start, end, h);
+    arithmetic::add_scaled(field, coefs, basis, 0, m, k);
+    arithmetic::add_scaled(field, rests, values, start, end, h);
     mul_differences(field, values, points, start, end, y);
     mul_linear(field, basis, m, y);
     c + 1

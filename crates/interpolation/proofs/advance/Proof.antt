@@ -54,24 +54,22 @@ mul-differences-requires : tie.Need-mul-differences-requires
 mul-differences-requires c κs = search needs
 
 mul-linear-requires : tie.Need-mul-linear-requires
-mul-linear-requires c κs =
-    let s = c .before .before .before .before .before .before .before .before .before .before .before .before .before .before .before .before .before .before .before .before .before in
-    (s .pre .5 .ns-size, c .before .before .before .before .before .before .before .before .before .before .before .block-end .ensures .1)
+mul-linear-requires c κs = search needs
 
 add-result : tie.Need-add-result
 add-result c = search needs
 
 returns-2 : tie.Need-returns-2
 returns-2 c =
-    let s = c .before .before .before .before .before .before .before .before .before .before .before .before .before .before .before .before .before .before .before .before .before .before in
+    let s = c .before .before .before .before .before .before .before .before .before .before .before .before .before .before .before .before .before .before .before .before .before .before .before .before in
     let a = s .args in
-    let v = c .before .before .before .before .before .before .before .before .before .before .before .before .before .before .before .before .inverse-of in
-    let k = c .before .before .before .before .before .before .before .before .before .before .before .before .before .before .product in
-    let h = c .before .before .before .before .before .before .before .before .before .before .before .before .before .sub in
-    let w = c .before .before .before .before .before .before .before .before .before .before .before .before .block-end in
-    let b = c .before .before .before .before .before .before .before .before .before .before .before .block-start in
-    let e = c .before .before .before .before .before .before .before .before .before .before .block-end2 in
-    let A = c .before .before .before .before .before .before .before .add-scaled in
+    let v = c .before .before .before .before .before .before .before .before .before .before .before .before .before .before .before .before .before .before .inverse-of in
+    let k = c .before .before .before .before .before .before .before .before .before .before .before .before .before .before .before .before .product in
+    let h = c .before .before .before .before .before .before .before .before .before .before .before .before .before .before .before .sub in
+    let w = c .before .before .before .before .before .before .before .before .before .before .before .before .before .before .block-end in
+    let b = c .before .before .before .before .before .before .before .before .before .before .before .before .before .block-start in
+    let e = c .before .before .before .before .before .before .before .before .before .before .before .before .block-end2 in
+    let A = c .before .before .before .before .before .before .before .before .add-scaled in
     let B = c .before .before .before .before .add-scaled2 in
     let C = c .before .before .mul-differences in
     let D = c .mul-linear in (
@@ -80,7 +78,7 @@ returns-2 c =
       λ ws N.
           place-taken (a .field) (a .n) (a .points .now) ws (a .marks .now) (a .i) (a .c) (a .coefs .now) (a .basis .now) (a .values .now) (a .rests .now)
           (A .last .1 .0) (D .last .1 .0) (C .last .1 .0) (B .last .1 .0) (k .result) (v .result) (h .result) (w .result) (b .result) (e .result)
-          (s .pre .4) (s .pre .5) (s .pre .1) (c .before .before .before .before .before .before .before .before .before .before .before .before .before .before .before .before .before .before .before .if1 .left) (w .ensures .0) (b .ensures) (e .ensures .0)
+          (s .pre .4) (s .pre .5) (s .pre .1) (c .before .before .before .before .before .before .before .before .before .before .before .before .before .before .before .before .before .before .before .before .before .if1 .left) (w .ensures .0) (b .ensures) (e .ensures .0)
           (v .ensures) (k .ensures) (h .ensures) (A .ensures) (B .ensures) (C .ensures) (D .ensures) N,
     )
 

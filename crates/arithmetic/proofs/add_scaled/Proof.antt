@@ -5,8 +5,8 @@ use native.Mathlib.Omega.{arith}
 use Rattle.algebra.specs.Sequence.{at}
 use Rattle.algebra.proofs.Writing.{Writing, writing-none, writing-more, writing-done}
 use Rattle.field.specs.Field.{plus, times}
-use Rattle.interpolation.proofs.add_scaled.Statement.{statement}
-use Rattle.interpolation.proofs.add_scaled.Tie as tie
+use Rattle.arithmetic.proofs.add_scaled.Statement.{statement}
+use Rattle.arithmetic.proofs.add_scaled.Tie as tie
 
 abbrev Inv-loop : tie.InvT-loop
 Inv-loop field target₀ source from to c p₀ target p = Writing (λ i. plus field (at target₀ i) (times field c (at source i))) from to p target₀ target
@@ -17,20 +17,20 @@ abbrev μ-loop : tie.MeasureT-loop
 loop-holds : tie.Need-loop-holds Inv-loop μ-loop
 loop-holds c = writing-none (omega arith)
 
-element-copy-out-product : tie.Need-element-copy-out-product Inv-loop μ-loop
-element-copy-out-product c = omega arith
+shared-slice-read-product : tie.Need-shared-slice-read-product Inv-loop μ-loop
+shared-slice-read-product c = omega arith
 
 product-requires : tie.Need-product-requires Inv-loop μ-loop
 product-requires c κs = search needs
 
-element-copy-out-add : tie.Need-element-copy-out-add Inv-loop μ-loop
-element-copy-out-add c = omega arith
+slice-read-add : tie.Need-slice-read-add Inv-loop μ-loop
+slice-read-add c = omega arith
 
 add-requires : tie.Need-add-requires Inv-loop μ-loop
 add-requires c κs = search needs
 
-element-write-target : tie.Need-element-write-target Inv-loop μ-loop
-element-write-target c = omega arith
+slice-write-target : tie.Need-slice-write-target Inv-loop μ-loop
+slice-write-target c = omega arith
 
 add-p : tie.Need-add-p Inv-loop μ-loop
 add-p c = omega arith
@@ -41,9 +41,12 @@ loop-less c = omega arith
 loop-again : tie.Need-loop-again Inv-loop μ-loop
 loop-again c =
     let l = c .before .before .before .before .before .loop in
-    let s = c .before .before .before .before .before .before in
-    writing-more (c .before .before .before .before .loop-test .taken) (omega (arith, s .pre .0))
+    let s = c .before .before .before .before .before .before .before .before in
+    writing-more (c .before .before .before .before .loop-test .taken) (s .pre .1)
     (c .add .ensures ∙ ap₂ (plus (s .args .field)) (l .inv .done .behind (l .p) (omega arith)) (c .before .before .product .ensures)) (l .inv)
+
+same-length : tie.Need-same-length Inv-loop μ-loop
+same-length c = c .before .loop .inv .done .size
 
 returns : tie.Need-returns Inv-loop μ-loop
 returns c = writing-done (c .loop-test .left) (c .before .loop .inv)
@@ -55,12 +58,13 @@ add-scaled-spec =
     Inv-loop
     μ-loop
     loop-holds
-    element-copy-out-product
+    shared-slice-read-product
     product-requires
-    element-copy-out-add
+    slice-read-add
     add-requires
-    element-write-target
+    slice-write-target
     add-p
     loop-less
     loop-again
+    same-length
     returns)
