@@ -3,20 +3,28 @@
 --   groups-most            so are the groups
 --   size-is, r-most        r is at most 16
 --   k-most                 k is at most 240
+--   row-byte               k + missing is at most 255
 --   work-most              n × (k + 1) is at most 61,455
+--   lead-parts, lead-is, lead-most    a short last group: lead symbols go with g, and with r they are k + missing
 use mathlib.Core.Path.{_≡_}
-use Prim.Native.Nat.{_+_, _*_, _-_, _≤_}
+use mathlib.Core.Bool.{false}
+use Prim.Native.Nat.{_+_, _*_, _≤_}
 use native.Mathlib.Nat.{mul-le-mul, mul-le-mul-left, mul-le-mul-right}
 use native.Mathlib.Omega.{arith}
 use Rattle.field.proofs.Laws.{q-most}
 use Rattle.code.specs.declared.Shape.{Shape}
-use Rattle.code.specs.Shape.{size, groups, room}
+use Rattle.code.specs.Shape.{size, groups, room, missing, whole}
+use Rattle.code.specs.Basis.{lead}
 use Rattle.code.specs.Laws.{Placed, Plain}
-use Rattle.code.proofs.Places.{n-room, size-least}
+use Rattle.code.proofs.Places.{n-room, size-least, missing-less}
 
 pub size-is : (s : Shape) → size s ≡ s .r + s .tolerance
 unfolding size
 size-is s = omega arith
+
+pub lead-parts : (s : Shape) → s .r ≤ s .k + missing s → lead s + s .r ≡ s .k + missing s
+unfolding lead
+lead-parts s h = omega arith
 
 module _ (s : Shape) (P : Placed s) where
   pub room-byte : room s ≤ 255
@@ -49,5 +57,17 @@ module _ (s : Shape) (L : Plain s) where
       let l : s .n ≤ groups s * size s = n-room s P in
       omega (arith, k-groups, n-most s P)
 
+  pub row-byte : s .k + missing s ≤ 255
+  unfolding missing
+  row-byte = omega (arith, k-groups, n-room s P, room-byte s P)
+
   pub work-most : s .n * (s .k + 1) ≤ 61455
   work-most = let h : s .k + 1 ≤ 241 = omega (arith, k-most) in mul-le-mul (n-most s P) h
+
+  -- a short last group
+  module _ (short : whole s ≡ false) where
+    pub lead-is : lead s + s .r ≡ s .k + missing s
+    lead-is = lead-parts s (L .k-last short)
+
+    pub lead-most : lead s ≤ s .k
+    lead-most = omega (arith, lead-is, missing-less s P, size-is s, L .short-one short)

@@ -16,7 +16,7 @@ use Rattle.code.specs.Search.{nth}
 use Rattle.code.specs.Shape.{size, groups, room, missing, whole}
 use Rattle.code.specs.Basis.{free, exponent, degree}
 use Rattle.code.specs.Laws.{Placed, Family}
-use Rattle.code.proofs.Places.{n-room, groups-least}
+use Rattle.code.proofs.Places.{k-room, groups-least}
 use Rattle.code.proofs.Monomial.{monomial}
 
 pub exponent-raised : (s : Shape) → s .second ≡ 0 → (m : ℕ) → exponent s m ≡ raised (s .r) (size s) m
@@ -64,16 +64,12 @@ module _ (s : Shape) (P : Placed s) (none : s .second ≡ 0) where
     unfolding room
     room-is = ap (λ n. groups s * n) size-sum
 
-    k-room : s .k + missing s + s .tolerance * groups s ≤ room s
-    unfolding missing
-    k-room = omega (arith, n-room s P)
-
     last-block : last / s .r < groups s
-    last-block = div-lt-iff-lt-mul {k = s .r} {x = last} {y = groups s} (P .r-least) .1 (omega (arith, room-is, k-room))
+    last-block = div-lt-iff-lt-mul {k = s .r} {x = last} {y = groups s} (P .r-least) .1 (omega (arith, room-is, k-room s P k-most))
 
     pub degree-inside : degree s + s .tolerance < room s
     unfolding degree
-    degree-inside = omega (arith, exponent-is last, mul-le-mul-left (s .tolerance) last-block, k-room)
+    degree-inside = omega (arith, exponent-is last, mul-le-mul-left (s .tolerance) last-block, k-room s P k-most)
 
     pub grouped-whole : whole s ≡ true → Family s
     unfolding degree

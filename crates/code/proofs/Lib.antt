@@ -13,6 +13,7 @@ pub mod Bridges
 pub mod Verdicts
 pub mod Others
 pub mod Mates
+pub mod Losing
 pub mod Weights
 pub mod Interpolating
 pub mod Parity
@@ -24,8 +25,13 @@ pub mod Lawful
 pub mod Monomial
 pub mod Grouped
 pub mod Coefficients
+pub mod ShortBasis
+pub mod Vanishing
+pub mod Short
+pub mod Expansion
 pub mod Accepted
 pub mod Bounds
 pub mod Shared
+pub mod Stay
 pub mod Wirings
 pub mod Promises

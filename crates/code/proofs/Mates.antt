@@ -1,16 +1,21 @@
 -- A slot's mates: the other members of its group that are slots, and behind them those that are none. Assumes nothing.
 --   member-slot                  a member of a group is a slot just where it is below members
+--   members-are, members-least   how many are slots, by which are; at least one
 --   members-whole                all of a whole group are
 --   length-mates, mates-distinct, mate-other, mates-below, mate-below, mates-behind
 --   mates-before, mates-after    mate i is member i of the group, or i + 1 from the slot on
---   mates-number                 there are r where groups are whole and stand one loss
+--   mates-number-is, mates-number-none, mates-whole    how many symbols repair is handed
+--   mates-full, mates-last       how many mates a slot of a whole group has, and one of a short last group
 --   length-symbols, at-symbols   a word's symbols at some slots
-use mathlib.Core.Path.{_≡_, _∙_}
-use mathlib.Core.Bool.{Bool, true}
+use mathlib.Core.Path.{_≡_, refl, ap, _∙_}
+use mathlib.Core.Bool.{Bool, true, false, cond}
 use mathlib.Core.List.{List}
-use Prim.Native.Nat.{ℕ, suc, _+_, _-_, _≤_, _<_}
+use Prim.Native.Nat.{ℕ, suc, _+_, _*_, _-_, _/_, _%_, _≤_, _<_}
+use native.Mathlib.Nat.{div-add-mod', mod-lt, div-lt-iff-lt-mul, mul-le-mul-right}
 use native.Mathlib.Decide.{decLt, ℕ-discrete}
 use native.Mathlib.Omega.{arith}
+use borrow.Author.Tests.{lt-ltb, le-ltb}
+use lib.Arith.{digits-div}
 use lib.Dec.{ltb, ltb→lt, lt→ltb}
 use lib.ListN.{length, length-map, length-drop, drop}
 use lib.Seq.{length-take-le, getD-take, getD-drop}
@@ -21,10 +26,10 @@ use Rattle.algebra.proofs.At.{at-map}
 use Rattle.algebra.proofs.Counting.{count-all, count-most, count-same}
 use Rattle.algebra.proofs.Leading.{leading-in, leading-out}
 use Rattle.code.specs.declared.Shape.{Shape}
-use Rattle.code.specs.Shape.{size, groups, room, whole, group, member, members, slot-at, others, mates}
+use Rattle.code.specs.Shape.{size, groups, room, whole, wired, group, member, members, slot-at, others, mates, mates-number}
 use Rattle.code.specs.Repair.{symbols-of}
-use Rattle.code.specs.Laws.{Placed, Mending}
-use Rattle.code.proofs.Places.{n-room, group-below, member-below, slot-group-member, slot-at-later, slot-inside}
+use Rattle.code.specs.Laws.{Placed}
+use Rattle.code.proofs.Places.{slot-at-is, size-least, n-room, room-less, whole-multiple, group-below, member-below, slot-group-member, slot-at-later, slot-inside}
 use Rattle.code.proofs.Fronts.{each-of-index, in-take, distinct-take}
 use Rattle.code.proofs.Others.{length-others, others-distinct, others-before, others-after}
 
@@ -55,6 +60,27 @@ module _ (s : Shape) (P : Placed s) where
     pub members-most : members s j ≤ size s
     unfolding members
     members-most = count-most (λ i. ltb (slot-at s j i) (s .n)) (size s)
+
+    -- they are the first m where just those are slots
+    pub members-are : (m : ℕ) → m ≤ size s → ((i : ℕ) → i < m → slot-at s j i < s .n) → ((i : ℕ) → m ≤ i → i < size s → s .n ≤ slot-at s j i) → members s j ≡ m
+    members-are m h inside outside = go (decLt m (members s j)) (decLt (members s j) m)
+      where
+        go : Dec (m < members s j) → Dec (members s j < m) → members s j ≡ m
+        go (yes l) d = absurd (omega (arith, member-slot m l, outside m (omega arith) (omega (arith, members-most))))
+        go (no l) (yes d) = absurd (omega (arith, slot-member (members s j) (omega arith) (inside (members s j) d)))
+        go (no l) (no d) = omega arith
+
+    -- the first member of every group is a slot
+    pub first-inside : j < groups s → slot-at s j 0 < s .n
+    unfolding room
+    first-inside h = go (wired s) refl
+      where
+        go : (b : Bool) → wired s ≡ b → slot-at s j 0 < s .n
+        go true w = slot-inside s P (P .wired-whole w) j 0 h (size-least s P)
+        go false w = rw (slot-at-is s j 0, w) (omega (arith, mul-le-mul-right (size s) h, room-less s P))
+
+    pub members-least : j < groups s → 1 ≤ members s j
+    members-least h = slot-member 0 (size-least s P) (first-inside h)
 
     pub members-whole : j < groups s → whole s ≡ true → members s j ≡ size s
     unfolding members
@@ -127,9 +153,59 @@ pub at-symbols : (ws ps : List ℕ) (i : ℕ) → i < length ps → at (symbols-
 unfolding symbols-of
 at-symbols ws ps i h = at-map (at ws) ps i h
 
--- in a whole group that stands one loss there are r
-pub mates-number : (s : Shape) → Mending s → (p : ℕ) → p < s .n → length (mates s p) ≡ s .r
-unfolding size
-mates-number s M p h =
-    let P = M .placed in
-    omega (arith, length-mates s P p h, members-whole s P (group s p) (group-below s P p (omega (arith, n-room s P))) (M .whole-groups), M .one)
+-- the symbols that repair is handed, one for each mate
+pub mates-number-is : (s : Shape) (p : ℕ) → p < s .n → mates-number s p ≡ length (mates s p)
+unfolding mates-number
+mates-number-is s p h = rw (lt-ltb p (s .n) h) refl
+
+pub mates-number-none : (s : Shape) (p : ℕ) → s .n ≤ p → mates-number s p ≡ size s - 1
+unfolding mates-number
+mates-number-none s p h = rw (le-ltb p (s .n) h) refl
+
+-- in whole groups size - 1
+pub mates-whole : (s : Shape) → Placed s → whole s ≡ true → (p : ℕ) → p < s .n → length (mates s p) ≡ size s - 1
+mates-whole s P w p h = omega (arith, length-mates s P p h, members-whole s P (group s p) (group-below s P p (omega (arith, n-room s P))) w)
+
+-- where n is no multiple of the size, the slots behind the last multiple are the last group
+module _ (s : Shape) (P : Placed s) (p : ℕ) (h : p < s .n) where
+  abbrev rest : ℕ
+  rest = s .n % size s
+
+  parts : s .n / size s * size s + rest ≡ s .n
+  parts = div-add-mod' (s .n) (size s)
+
+  place-of : wired s ≡ false → (i : ℕ) → slot-at s (group s p) i ≡ p / size s * size s + i
+  unfolding group
+  place-of w i = slot-at-is s (group s p) i ∙ ap (λ b. cond b (i * groups s + cond b (p % groups s) (p / size s)) (cond b (p % groups s) (p / size s) * size s + i)) w
+
+  flat-whole : wired s ≡ false → p < s .n - rest → members s (group s p) ≡ size s
+  flat-whole w l =
+      let z = size-least s P in
+      let a : p / size s < s .n / size s = div-lt-iff-lt-mul {k = size s} {x = p} {y = s .n / size s} z .1 (omega (arith, parts)) in
+      members-are s P (group s p) (size s) (omega arith)
+      (λ i b. omega (arith, place-of w i, mul-le-mul-right (size s) a, parts)) (λ i b d. absurd (omega arith))
+
+  flat-last : wired s ≡ false → s .n - rest ≤ p → members s (group s p) ≡ rest
+  flat-last w l =
+      let z = size-least s P in
+      let m = mod-lt (s .n) z in
+      let d : p - s .n / size s * size s < size s = omega (arith, parts, m) in
+      let e : p ≡ s .n / size s * size s + (p - s .n / size s * size s) = omega (arith, parts) in
+      let a : p / size s ≡ s .n / size s = ap (λ n. n / size s) e ∙ digits-div (s .n / size s) d in
+      let b = ap (λ n. n * size s) a in
+      members-are s P (group s p) rest (omega (arith, m)) (λ i k. omega (arith, place-of w i, b, parts)) (λ i k o. omega (arith, place-of w i, b, parts))
+
+  pub mates-full : p < s .n - s .n % size s → length (mates s p) + 1 ≡ size s
+  mates-full l = go (wired s) refl
+    where
+      go : (b : Bool) → wired s ≡ b → length (mates s p) + 1 ≡ size s
+      go true w =
+          omega (arith, length-mates s P p h, members-whole s P (group s p) (group-below s P p (omega (arith, n-room s P))) (P .wired-whole w))
+      go false w = omega (arith, length-mates s P p h, flat-whole w l)
+
+  pub mates-last : s .n - s .n % size s ≤ p → length (mates s p) + 1 ≡ s .n % size s
+  mates-last l = go (wired s) refl
+    where
+      go : (b : Bool) → wired s ≡ b → length (mates s p) + 1 ≡ s .n % size s
+      go true w = absurd (omega (arith, whole-multiple s P (P .wired-whole w)))
+      go false w = omega (arith, length-mates s P p h, flat-last w l)

@@ -1,18 +1,20 @@
 -- Places by group and member, for either wiring: what all else rests on. Assumes nothing.
 --   slot-at-is                                     the two forms of a place
---   size-least, groups-least, n-room, room-less, missing-less    the numbers of a placed shape
+--   size-least, groups-least, n-room, k-room, room-less, missing-less    the numbers of a placed shape
 --   group-below, member-below, slot-below          a place's group and member, and back
 --   slot-group-member, group-slot-at, member-slot-at
 --   same-place, slot-at-later, slot-at-injective   one place by its group and member; the members in order
---   whole-room, slot-inside, remainder             whole groups: every place is a slot; a short one: how many are
-use mathlib.Core.Path.{_≡_, sym, ap, ap₂, _∙_}
+--   whole-yes, whole-no                            whole groups: no place is missing
+--   whole-room, whole-multiple, slot-inside, remainder             whole groups: every place is a slot; a short one: how many are
+--   missing-inside, not-wired, group-last          a short one: wiring is not 1, and the missing places are of the last group
+use mathlib.Core.Path.{_≡_, refl, sym, ap, ap₂, _∙_}
 use mathlib.Core.Logic.{_≢_}
 use mathlib.Core.Bool.{Bool, true, false, cond}
 use Prim.Native.Nat.{ℕ, zero, suc, _+_, _*_, _-_, _/_, _%_, _≤_, _<_}
-use native.Mathlib.Nat.{div-add-mod', div-mul-le-self, div-lt-iff-lt-mul, mod-lt, mul-comm, mul-le-mul-right}
+use native.Mathlib.Nat.{div-add-mod', div-mul-le-self, div-lt-iff-lt-mul, le-div-iff-mul-le, mod-lt, mul-comm, mul-le-mul-right}
 use native.Mathlib.Decide.{decLt}
 use native.Mathlib.Omega.{arith}
-use borrow.Author.Tests.{eq-eqb}
+use borrow.Author.Tests.{eq-eqb, ne-eqb}
 use lib.Arith.{digits-lt, digits-div, digits-mod}
 use lib.Dec.{eqb→eq}
 use Rattle.algebra.proofs.Booleans.{so}
@@ -29,6 +31,15 @@ slot-at-is s j i = go (wired s)
     go true = omega arith
     go false = omega arith
 
+-- no place is missing, or some are
+pub whole-yes : (s : Shape) → missing s ≡ 0 → whole s ≡ true
+unfolding whole
+whole-yes s e = eq-eqb (missing s) 0 e
+
+pub whole-no : (s : Shape) → missing s ≢ 0 → whole s ≡ false
+unfolding whole
+whole-no s n = ne-eqb (missing s) 0 n
+
 module _ (s : Shape) (P : Placed s) where
   pub size-least : 0 < size s
   unfolding size
@@ -38,6 +49,10 @@ module _ (s : Shape) (P : Placed s) where
   unfolding room groups ceiling
   n-room =
       omega (arith, div-add-mod' (s .n + size s - 1) (size s), mod-lt (s .n + size s - 1) size-least, size-least)
+
+  pub k-room : s .k + s .tolerance * groups s ≤ s .n → s .k + missing s + s .tolerance * groups s ≤ room s
+  unfolding missing
+  k-room h = omega (arith, n-room)
 
   pub room-less : room s < s .n + size s
   unfolding room groups ceiling
@@ -129,6 +144,10 @@ module _ (s : Shape) (P : Placed s) where
   unfolding whole missing
   whole-room e = omega (arith, eqb→eq (room s - s .n) 0 (so e), n-room)
 
+  pub whole-multiple : whole s ≡ true → s .n % size s ≡ 0
+  unfolding room
+  whole-multiple w = let e : s .n ≡ groups s * size s + 0 = omega (arith, whole-room w) in ap (λ n. n % size s) e ∙ digits-mod (groups s) size-least
+
   -- so every member of a group is a slot
   pub slot-inside : whole s ≡ true → (j i : ℕ) → j < groups s → i < size s → slot-at s j i < s .n
   slot-inside e j i g h = omega (arith, slot-below j i g h, whole-room e)
@@ -150,3 +169,25 @@ module _ (s : Shape) (P : Placed s) where
 
       parts : s .n ≡ (groups s - 1) * size s + (size s - (groups s * size s - s .n))
       parts = omega (arith, ap (λ n. n * size s) e, room-less, n-room)
+
+  -- its missing places
+  pub missing-inside : (i : ℕ) → i < missing s → s .n + i < room s
+  unfolding missing
+  missing-inside i h = omega (arith, n-room)
+
+  pub not-wired : whole s ≡ false → wired s ≡ false
+  not-wired short = go (wired s) refl
+    where
+      go : (b : Bool) → wired s ≡ b → b ≡ false
+      go true e = sym (P .wired-whole e) ∙ short
+      go false e = refl
+
+  pub group-last : whole s ≡ false → (p : ℕ) → s .n ≤ p → p < room s → group s p ≡ groups s - 1
+  unfolding group room
+  group-last short p h l =
+      let e : groups s ≡ suc (groups s - 1) = omega (arith, groups-least) in
+      let a : p / size s < groups s = div-lt-iff-lt-mul {k = size s} {x = p} {y = groups s} size-least .1 l in
+      let b : groups s - 1 ≤ p / size s =
+      le-div-iff-mul-le {k = size s} {x = groups s - 1} {y = p} size-least .1 (omega (arith, room-less, ap (λ n. n * size s) e))
+      in
+      ap (λ w. cond w (p % groups s) (p / size s)) (not-wired short) ∙ omega arith

@@ -4,6 +4,7 @@ use Rattle.code.specs.Promise.{Promises}
 use Rattle.code.proofs.Accepted.{families}
 use Rattle.code.proofs.Points.{points-differ, group-power}
 use Rattle.code.proofs.Shared.{exponents-are, shared-are, code-numbers}
+use Rattle.code.proofs.Stay.{whole-stay}
 use Rattle.code.proofs.Wirings.{wiring-moves}
 use Rattle.code.proofs.Codewords.{symbols-in-field}
 use Rattle.code.proofs.Distance.{far-apart, encoding-injective}
@@ -25,6 +26,7 @@ promises =
       exponents-are = exponents-are;
       shared-are = shared-are;
       code-numbers = code-numbers;
+      whole-stay = whole-stay;
       wiring-moves = wiring-moves;
       symbols-in-field = symbols-in-field;
       low-degree = low-degree;

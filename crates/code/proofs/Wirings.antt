@@ -9,7 +9,7 @@ use Rattle.code.specs.declared.Shape.{Shape}
 use Rattle.code.specs.Shape.{size, groups, room, missing, whole, slot-at, point-at, point}
 use Rattle.code.specs.Basis.{exponent, whole-basis, short-basis, basis, degree, most-shared}
 use Rattle.code.specs.Codeword.{value-from, value, symbol, guarantee}
-use Rattle.code.specs.Laws.{Placed, Plain}
+use Rattle.code.specs.Laws.{Placed, Whole}
 use Rattle.code.specs.Promise.{rewired, Wiring-moves}
 use Rattle.code.proofs.Places.{group-slot-at, member-slot-at}
 
@@ -18,14 +18,14 @@ point-of-member : (s : Shape) → Placed s → (j i : ℕ) → j < groups s → 
 unfolding point
 point-of-member s P j i g h = ap₂ (point-at s) (group-slot-at s P j i g h) (member-slot-at s P j i g h)
 
-module _ (s : Shape) (w : ℕ) (L : Plain s) where
+module _ (s : Shape) (w : ℕ) (L : Whole s) where
   abbrev t : Shape
   t = rewired w s
 
   placed : Placed t
   unfolding size groups room missing whole
   placed =
-      let P = L .family .placed in
+      let P = L .plain .family .placed in
       record {
         field-most = P .field-most;
         r-least = P .r-least;
@@ -57,7 +57,7 @@ module _ (s : Shape) (w : ℕ) (L : Plain s) where
   same-symbol xs j i g h =
       same-from (point t (slot-at t j i)) 0 xs
       ∙ ap (λ x. value-from s x 0 xs)
-      (point-of-member t placed j i g h ∙ same-point j i ∙ sym (point-of-member s (L .family .placed) j i g h))
+      (point-of-member t placed j i g h ∙ same-point j i ∙ sym (point-of-member s (L .plain .family .placed) j i g h))
 
   same-sure : guarantee t ≡ guarantee s
   unfolding guarantee most-shared degree exponent room groups size missing

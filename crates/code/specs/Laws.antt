@@ -2,11 +2,12 @@
 --   Placed s      the numbers of an accepted shape: groups, points and weights rest on these alone
 --   Polynomial    a function of the field is a polynomial of at most l coefficients
 --   Family s      four laws of the basis polynomials: degree, independence, zeros behind the slots, r coefficients on a group
---   Plain s       a family of whole groups without a second size: message symbol m goes with X to the power exponent m
---   Mending s     whole groups that the repair of one slot mends
+--   Plain s       a family without a second size, whose last group may be short where groups stand one loss
+--   Whole s       such a family of whole groups: message symbol m goes with X to the power exponent m
+--   Mending s     groups that the repair of one slot mends
 --   Decodable s   a plain family whose groups mend themselves so
 use mathlib.Core.Path.{_≡_}
-use mathlib.Core.Bool.{true}
+use mathlib.Core.Bool.{true, false}
 use mathlib.Core.List.{List}
 use Prim.Native.Nat.{ℕ, _+_, _*_, _-_, _%_, _≤_, _<_}
 use lib.ListN.{length}
@@ -14,7 +15,7 @@ use Rattle.algebra.specs.Sequence.{all-below}
 use Rattle.field.specs.Field.{q}
 use Rattle.field.specs.Polynomial.{poly}
 use Rattle.code.specs.declared.Shape.{Shape}
-use Rattle.code.specs.Shape.{size, groups, room, whole, wired, group, point}
+use Rattle.code.specs.Shape.{size, groups, room, missing, whole, wired, group, point}
 use Rattle.code.specs.Basis.{basis, degree}
 use Rattle.code.specs.Codeword.{is-message, value}
 
@@ -54,13 +55,17 @@ pub record Family (s : Shape) : Type 0 where
 pub record Plain (s : Shape) : Type 0 where
   pub family : Family s
   pub k-most : s .k + s .tolerance * groups s ≤ s .n
-  pub whole-groups : whole s ≡ true
+  pub k-last : whole s ≡ false → s .r ≤ s .k + missing s
+  pub short-one : whole s ≡ false → s .tolerance ≡ 1
   pub second-none : s .second ≡ 0
+
+pub record Whole (s : Shape) : Type 0 where
+  pub plain : Plain s
+  pub whole-groups : whole s ≡ true
 
 pub record Mending (s : Shape) : Type 0 where
   pub placed : Placed s
   pub one : s .tolerance ≡ 1
-  pub whole-groups : whole s ≡ true
 
 pub record Decodable (s : Shape) : Type 0 where
   pub plain : Plain s

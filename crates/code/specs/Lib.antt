@@ -11,5 +11,6 @@ pub mod Pass
 pub mod Family
 pub mod Laws
 pub mod Verdict
+pub mod Whole
 pub mod Promise
 pub mod Step

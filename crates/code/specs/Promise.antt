@@ -2,6 +2,7 @@
 --   Families                                              the codes of the paper are a family, and a plain one
 --   Points-differ, Group-power, Exponents-are             points and exponents
 --   Shared-are, Code-numbers                              the most places that two codewords share, and the guarantee, in closed form
+--   Whole-stay (specs/Whole.antt)                         codes of whole groups are what they are without short ones
 --   Wiring-moves                                          the wiring moves symbols, and changes none
 --   Symbols-in-field, Low-degree                             codewords
 --   Far-apart, Decodes-back, Encoding-injective, Bridges  one proof of the distance rule; messages and codewords
@@ -13,7 +14,7 @@ use mathlib.Core.Path.{_≡_}
 use mathlib.Core.Logic.{_≢_}
 use mathlib.Core.Bool.{true}
 use mathlib.Core.List.{List, map}
-use Prim.Native.Nat.{ℕ, _+_, _*_, _-_, _≤_, _<_}
+use Prim.Native.Nat.{ℕ, _+_, _*_, _-_, _%_, _≤_, _<_}
 use lib.ListN.{length}
 use Rattle.algebra.specs.Sequence.{at, all-below, Each, Distinct, In, column}
 use Rattle.field.specs.Field.{q, γ, minus, times, power, inverse}
@@ -28,7 +29,8 @@ use Rattle.code.specs.Decoding.{agrees, fits}
 use Rattle.code.specs.Erasure.{lost-number}
 use Rattle.code.specs.Repair.{restored, weights, repaired, symbols-of, strip}
 use Rattle.code.specs.Pass.{kept-places, mends, passed, marks-after}
-use Rattle.code.specs.Laws.{Placed, On-group, Family, Plain}
+use Rattle.code.specs.Whole.{Whole-stay}
+use Rattle.code.specs.Laws.{Placed, On-group, Family, Plain, Whole}
 
 -- a code that questions 1 to 4 and 17 pass
 abbrev pub Accepted : Code → Type 0
@@ -56,7 +58,7 @@ pub record Exponents (s : Shape) : Type 0 where
   pub differ : (i j : ℕ) → exponent s i ≡ exponent s j → i ≡ j
 
 unfoldable pub Exponents-are : Type 0
-Exponents-are = (s : Shape) → Plain s → Exponents s
+Exponents-are = (s : Shape) → Whole s → Exponents s
 
 -- k' = k + missing: two codewords share at most k - 1 + tolerance × (⌈k'/r⌉ - 1) places, and what is left of n is sure
 pub record Shared-is (s : Shape) : Type 0 where
@@ -66,11 +68,14 @@ pub record Shared-is (s : Shape) : Type 0 where
 unfoldable pub Shared-are : Type 0
 Shared-are = (s : Shape) → Family s → s .second ≡ 0 → Shared-is s
 
--- the paper's numbers: the largest exponent is k + ⌈k/r⌉ - 2, the guarantee n - k - ⌈k/r⌉ + 1
+-- the paper's numbers: with s = n mod (r + 1), t = r + 1 - s points missing where s is not 0 and none where it is, and k' = k + t, the largest
+-- degree is k' + ⌈k'/r⌉ - 2, two codewords share at most k + ⌈k'/r⌉ - 2 places, and the guarantee is n - k - ⌈k'/r⌉ + 1
 pub record Numbers (c : Code) : Type 0 where
-  pub largest : degree (single c) + 2 ≡ c .k + ceiling (c .k) (c .r)
-  pub most : most-shared (single c) + 2 ≡ c .k + ceiling (c .k) (c .r)
-  pub sure : guarantee (single c) + (c .k + ceiling (c .k) (c .r)) ≡ c .n + 1
+  pub none : c .n % (c .r + 1) ≡ 0 → missing (single c) ≡ 0
+  pub some : c .n % (c .r + 1) ≢ 0 → missing (single c) + c .n % (c .r + 1) ≡ c .r + 1
+  pub largest : degree (single c) + 2 ≡ c .k + missing (single c) + ceiling (c .k + missing (single c)) (c .r)
+  pub most : most-shared (single c) + 2 ≡ c .k + ceiling (c .k + missing (single c)) (c .r)
+  pub sure : guarantee (single c) + (c .k + ceiling (c .k + missing (single c)) (c .r)) ≡ c .n + 1
 
 unfoldable pub Code-numbers : Type 0
 Code-numbers = (c : Code) → Accepted c → Numbers c
@@ -86,7 +91,7 @@ pub record Moved (s t : Shape) : Type 0 where
   pub sure : guarantee t ≡ guarantee s
 
 unfoldable pub Wiring-moves : Type 0
-Wiring-moves = (s : Shape) (w : ℕ) → Plain s → Moved s (rewired w s)
+Wiring-moves = (s : Shape) (w : ℕ) → Whole s → Moved s (rewired w s)
 
 -- symbols of a codeword are below q
 unfoldable pub Symbols-in-field : Type 0
@@ -211,6 +216,7 @@ pub record Promises : Type 0 where
   pub exponents-are : Exponents-are
   pub shared-are : Shared-are
   pub code-numbers : Code-numbers
+  pub whole-stay : Whole-stay
   pub wiring-moves : Wiring-moves
   pub symbols-in-field : Symbols-in-field
   pub low-degree : Low-degree

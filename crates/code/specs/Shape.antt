@@ -9,11 +9,12 @@
 --   members s j                    how many members of group j are slots
 --   point-at, point                γ to the power j + i × (q - 1)/size
 --   others s p, mates s p          the other places of p's group, in order; those of them that are slots
+--   mates-number s p               how many symbols repair is handed for p
 use mathlib.Core.Bool.{Bool, cond}
 use mathlib.Core.List.{List, [], _∷_}
 use Prim.Native.Nat.{ℕ, zero, suc, _+_, _*_, _-_, _/_, _%_}
 use lib.Dec.{ltb, eqb}
-use lib.ListN.{take}
+use lib.ListN.{length, take}
 use Rattle.algebra.specs.Sequence.{count}
 use Rattle.field.specs.Field.{q, γ, power}
 use Rattle.code.specs.declared.Shape.{Shape}
@@ -74,3 +75,7 @@ others s p = others-from s (size s) 0 (group s p) (member s p)
 -- a short group keeps its first members
 unfoldable pub mates : Shape → (slot : ℕ) → List ℕ
 mates s p = take (members s (group s p) - 1) (others s p)
+
+-- how many symbols repair is handed: where there is no such slot, as many as for a slot of a whole group
+unfoldable pub mates-number : Shape → (slot : ℕ) → ℕ
+mates-number s p = cond (ltb p (s .n)) (length (mates s p)) (size s - 1)

@@ -1,15 +1,19 @@
 -- Demand 3, word for word, of accepted codes and of the calls by their contracts. Each statement is a type; proofs/Promises.antt proves them all.
 -- Assumes nothing: these are statements.
---   Shares-at-most    codewords of two different messages share at most k + ⌈k/r⌉ - 2 places
---   Group-tells       two codewords that share r symbols of a group of r + 1 share the remaining one
---   Decode-returns    with at most n - k - ⌈k/r⌉ + 1 slots lost, whatever stands in them, decode gives back the message that encode was handed
+-- With s = n mod (r + 1), k' is k where s is 0, and k + r + 1 - s where the last group is short and has s slots.
+--   long              k'
+--   Shares-at-most    codewords of two different messages share at most k + ⌈k'/r⌉ - 2 places
+--   Group-tells       two codewords that share all symbols of a group but one share the remaining one: r of a whole group, s - 1 of a short one
+--   Group-has         so many mates each slot has
+--   Decode-returns    with at most n - k - ⌈k'/r⌉ + 1 slots lost, whatever stands in them, decode gives back the message that encode was handed
 --   Repair-returns    from what encode wrote at the mates, repair answers what encode wrote at the slot
 --   Promises          all of them
 use mathlib.Core.Path.{_≡_}
 use mathlib.Core.Logic.{_≢_}
-use mathlib.Core.Bool.{true}
+use mathlib.Core.Bool.{true, cond}
 use mathlib.Core.List.{List}
-use Prim.Native.Nat.{ℕ, _+_, _*_, _≤_, _<_}
+use Prim.Native.Nat.{ℕ, _+_, _*_, _-_, _%_, _≤_, _<_}
+use lib.Dec.{eqb}
 use lib.ListN.{length}
 use Rattle.algebra.specs.Sequence.{at, all-below}
 use Rattle.code.specs.declared.Code.{Code}
@@ -29,10 +33,14 @@ use Rattle.decode.specs.Decode.{Decode-says}
 abbrev pub Message : Code → List ℕ → Type 0
 Message c ms = is-message (single c) ms ≡ true
 
+-- k' = k + t, t = r + 1 - s
+unfoldable pub long : Code → ℕ
+long c = let s = c .n % (c .r + 1) in cond (eqb s 0) (c .k) (c .k + (c .r + 1 - s))
+
 unfoldable pub Shares-at-most : Type 0
 Shares-at-most =
     (c : Code) (xs ys : List ℕ) → Accepted c → Message c xs → Message c ys → xs ≢ ys
-    → shared (single c) (encoded (single c) xs) (encoded (single c) ys) + 2 ≤ c .k + ceiling (c .k) (c .r)
+    → shared (single c) (encoded (single c) xs) (encoded (single c) ys) + 2 ≤ c .k + ceiling (long c) (c .r)
 
 unfoldable pub Group-tells : Type 0
 Group-tells =
@@ -40,9 +48,17 @@ Group-tells =
     → symbols-of (encoded (single c) xs) (mates (single c) p) ≡ symbols-of (encoded (single c) ys) (mates (single c) p)
     → at (encoded (single c) xs) p ≡ at (encoded (single c) ys) p
 
--- at most n - k - ⌈k/r⌉ + 1 slots are lost
+-- a slot of a whole group has r mates, one of a last group of s slots s - 1
+pub record Group-size (c : Code) (p : ℕ) : Type 0 where
+  pub whole : p < c .n - c .n % (c .r + 1) → length (mates (single c) p) ≡ c .r
+  pub short : c .n - c .n % (c .r + 1) ≤ p → length (mates (single c) p) + 1 ≡ c .n % (c .r + 1)
+
+unfoldable pub Group-has : Type 0
+Group-has = (c : Code) (p : ℕ) → Accepted c → p < c .n → Group-size c p
+
+-- at most n - k - ⌈k'/r⌉ + 1 slots are lost
 abbrev pub Within : Code → (marks : List ℕ) → Type 0
-Within c ks = lost-number (single c) ks + (c .k + ceiling (c .k) (c .r)) ≤ c .n + 1
+Within c ks = lost-number (single c) ks + (c .k + ceiling (long c) (c .r)) ≤ c .n + 1
 
 -- cs is what encode wrote, ws any word with its symbols at the kept slots, z what decode left in the message buffer
 unfoldable pub Decode-returns : Type 0
@@ -62,5 +78,6 @@ Repair-returns =
 pub record Promises : Type 0 where
   pub shares-at-most : Shares-at-most
   pub group-tells : Group-tells
+  pub group-has : Group-has
   pub decode-returns : Decode-returns
   pub repair-returns : Repair-returns

@@ -2,8 +2,5 @@ pub mod Search
 pub mod Sizes
 pub mod TwoWay
 pub mod Ways
-pub mod ShortBasis
-pub mod Short
-pub mod Passed
-pub mod Families
+pub mod Double
 pub mod Promises

@@ -1,18 +1,15 @@
 -- All statements of specs/Promise.antt are proved. Assumes nothing.
 --   promises    each of them, from the file of its idea
 use Rattle.families.specs.Promise.{Promises}
-use Rattle.families.proofs.Families.{general-are, whole-are, double-are, stay-accepted}
+use Rattle.families.proofs.Double.{double-are}
 use Rattle.families.proofs.TwoWay.{two-way-are}
 use Rattle.families.proofs.Ways.{ways-same, ways-apart, way-back}
 
 pub promises : Promises
 promises =
     record {
-      general-are = general-are;
-      whole-are = whole-are;
       double-are = double-are;
       two-way-are = two-way-are;
-      stay-accepted = stay-accepted;
       ways-same = ways-same;
       ways-apart = ways-apart;
       way-back = way-back;

@@ -1,38 +1,23 @@
--- What is promised of the families: every promise of crate code that asks for Family or Plain holds of them. Assumes nothing: these are statements.
---   General-are, Whole-are, Double-are, Two-way-are    what an accepted shape is
---   Stay-accepted                                      the codes of the paper are among the general ones
---   Ways-same, Ways-apart, Way-back                    two ways home are two groupings of one code
---   Promises                                           all of them
+-- What is promised of the families: every promise of crate code that asks for Family, Plain or Whole holds of them. Assumes nothing: these are statements.
+--   Double-are, Two-way-are            what an accepted shape is
+--   Ways-same, Ways-apart, Way-back    two ways home are two groupings of one code
+--   Promises                           all of them
 use mathlib.Core.Path.{_≡_}
-use mathlib.Core.Bool.{true}
 use mathlib.Core.List.{List}
 use Prim.Native.Nat.{ℕ, _-_, _<_}
 use Rattle.algebra.specs.Sequence.{In}
 use Rattle.field.specs.Field.{q}
 use Rattle.code.specs.declared.Code.{Code}
-use Rattle.code.specs.Shape.{whole, mates}
+use Rattle.code.specs.Shape.{mates}
 use Rattle.code.specs.Codeword.{encoded}
-use Rattle.code.specs.Family.{single}
-use Rattle.code.specs.Laws.{Family, Plain}
-use Rattle.code.specs.Promise.{Accepted}
-use Rattle.families.specs.Family.{double, two-way, general-refusal, double-refusal, sizes-refusal}
-
-unfoldable pub General-are : Type 0
-General-are = (c : Code) → general-refusal c ≡ 0 → Family (single c)
-
--- with whole groups they are plain in either wiring
-unfoldable pub Whole-are : Type 0
-Whole-are = (c : Code) → general-refusal c ≡ 0 → whole (single c) ≡ true → Plain (single c)
+use Rattle.code.specs.Laws.{Family, Whole}
+use Rattle.families.specs.Family.{double, two-way, double-refusal, sizes-refusal}
 
 unfoldable pub Double-are : Type 0
-Double-are = (c : Code) → double-refusal c ≡ 0 → Plain (double c)
+Double-are = (c : Code) → double-refusal c ≡ 0 → Whole (double c)
 
 unfoldable pub Two-way-are : Type 0
 Two-way-are = (f u v k : ℕ) → sizes-refusal f u v k ≡ 0 → Family (two-way f u v k)
-
--- the codes of the paper are general ones
-unfoldable pub Stay-accepted : Type 0
-Stay-accepted = (c : Code) → Accepted c → general-refusal c ≡ 0
 
 -- both sizes give the same codewords
 unfoldable pub Ways-same : Type 0
@@ -49,11 +34,8 @@ unfoldable pub Way-back : Type 0
 Way-back = (f u v k : ℕ) → sizes-refusal f u v k ≡ 0 → Family (two-way f v u k)
 
 pub record Promises : Type 0 where
-  pub general-are : General-are
-  pub whole-are : Whole-are
   pub double-are : Double-are
   pub two-way-are : Two-way-are
-  pub stay-accepted : Stay-accepted
   pub ways-same : Ways-same
   pub ways-apart : Ways-apart
   pub way-back : Way-back

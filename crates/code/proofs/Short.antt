@@ -5,7 +5,7 @@ use mathlib.Core.Path.{_≡_, refl, sym, ap, ap₂, _∙_}
 use mathlib.Core.Bool.{Bool, true, false, cond}
 use mathlib.Core.List.{List}
 use Prim.Native.Nat.{ℕ, suc, _+_, _*_, _-_, _/_, _%_, _≤_, _<_}
-use native.Mathlib.Nat.{add-div-right, add-mod-right, div-eq-of-lt, mod-eq-of-lt, mod-lt, div-lt-iff-lt-mul, le-div-iff-mul-le, mul-le-mul-right}
+use native.Mathlib.Nat.{add-div-right, add-mod-right, div-eq-of-lt, mod-eq-of-lt, mod-lt, mul-le-mul-right}
 use native.Mathlib.Decide.{decLt}
 use native.Mathlib.Omega.{arith}
 use lib.Dec.{ltb, ltb→lt, lt→ltb}
@@ -21,18 +21,19 @@ use Rattle.algebra.proofs.Blocks.{monic-power, monic-poly}
 use Rattle.algebra.proofs.Locality.{raised}
 use Rattle.field.proofs.Elem.{Elem, ring-of, field-of}
 use Rattle.field.proofs.Elements.{els}
 use Rattle.code.specs.declared.Shape.{Shape}
-use Rattle.code.specs.Shape.{size, groups, room, missing, whole, wired, group, point}
+use Rattle.code.specs.Shape.{size, groups, room, missing, whole, group, point}
 use Rattle.code.specs.Basis.{exponent, lead, whole-basis, short-basis, basis, degree}
 use Rattle.code.specs.Codeword.{value-from, value, symbol}
 use Rattle.code.specs.Laws.{Placed, Polynomial, On-group, Family}
-use Rattle.code.proofs.Places.{size-least, groups-least, room-less}
+use Rattle.code.proofs.Places.{groups-least, group-last}
+use Rattle.code.proofs.Bounds.{lead-parts}
 use Rattle.code.proofs.Points.{locator, locator-is, locators-differ, group-constant}
 use Rattle.code.proofs.Codewords.{Message-is}
 use Rattle.code.proofs.Sums.{sums-value}
 use Rattle.code.proofs.Lawful.{polynomial-of, on-group-of, independent-of}
 use Rattle.code.proofs.Grouped.{exponent-raised, exponent-injective, exponent-monotone, degree-inside}
-use Rattle.families.proofs.ShortBasis.{last-constant, goods, part, part-degree, part-is, monic-part, goods-on-group, vanish-behind}
+use Rattle.code.proofs.ShortBasis.{last-constant, goods, part, part-degree, part-is, monic-part, goods-on-group, vanish-behind}
 
 -- a number that is not below another
 not-below : (m n : ℕ) → ltb m n ≡ false → n ≤ m
@@ -62,8 +63,7 @@ module _ (s : Shape) (P : Placed s) (none : s .second ≡ 0) (broken : whole s �
   first m = ltb m (lead s)
 
   lead-is : lead s + s .r ≡ s .k + missing s
-  unfolding lead
-  lead-is = omega arith
+  lead-is = lead-parts s k-last
 
   rest-low : (m : ℕ) → m < s .k → first m ≡ false → missing s + (m - lead s) < s .r
   rest-low m h e = omega (arith, lead-is, not-below m (lead s) e)
@@ -167,25 +167,8 @@ module _ (s : Shape) (P : Placed s) (none : s .second ≡ 0) (broken : whole s �
 
   -- behind the slots
   module _ (p : ℕ) (h : s .n ≤ p) (l : p < room s) where
-    not-wired : wired s ≡ false
-    not-wired = go (wired s) refl
-      where
-        go : (b : Bool) → wired s ≡ b → b ≡ false
-        go true e = sym (P .wired-whole e) ∙ broken
-        go false e = refl
-
-    group-last : group s p ≡ groups s - 1
-    unfolding group room
-    group-last =
-        let e : groups s ≡ suc (groups s - 1) = omega (arith, groups-least s P) in
-        let a : p / size s < groups s = div-lt-iff-lt-mul {k = size s} {x = p} {y = groups s} (size-least s P) .1 l in
-        let b : groups s - 1 ≤ p / size s =
-        le-div-iff-mul-le {k = size s} {x = groups s - 1} {y = p} (size-least s P) .1 (omega (arith, room-less s P, ap (λ n. n * size s) e))
-        in
-        ap (λ w. cond w (p % groups s) (p / size s)) not-wired ∙ omega arith
-
     goods-none : goods s (locator s p) ≡ R .nil
-    goods-none = goods-on-group s P (groups s - 1) p group-last ∙ sub-self R (last-constant s)
+    goods-none = goods-on-group s P (groups s - 1) p (group-last s P broken p h l) ∙ sub-self R (last-constant s)
 
     part-none : (m : ℕ) (b : Bool) → part s b m (locator s p) ≡ R .nil
     unfolding part pow

@@ -1,5 +1,6 @@
 -- The basis polynomials of a code with a short last group, over the field. Assumes nothing.
 --   last-constant, goods, behind    the power size of the last group's points; X to that power less it; the points behind the slots
+--   constant-is, good-is, vanish-is      they are those of numbers
 --   part s b m x                    == the value at x of polynomial m: with goods where b, else with the product of X - β over behind
 --   part-is                         it is the short basis
 --   part-degree s b m               == its degree; monic-part
@@ -12,20 +13,20 @@ use Prim.Native.Nat.{ℕ, zero, suc, _+_, _*_, _-_, _/_, _%_, _≤_, _<_}
 use native.Mathlib.Decide.{ℕ-discrete}
 use native.Mathlib.Omega.{arith}
 use lib.Dec.{ltb}
-use lib.ListN.{length}
 use Rattle.algebra.specs.Ring.{Ring, pow}
 use Rattle.algebra.specs.Sequence.{tabulate-from}
 use Rattle.algebra.proofs.Ring.{sub-self, mul-nil, nil-mul}
+use Rattle.algebra.proofs.Tabulate.{length-from}
 use Rattle.algebra.proofs.Monic.{Monic}
 use Rattle.algebra.proofs.Blocks.{monic-block, vanish, monic-vanish}
 use Rattle.field.specs.Field.{minus, times, power}
 use Rattle.field.proofs.Elem.{Elem, ring-of, pow-is, gen}
 use Rattle.code.specs.declared.Shape.{Shape}
 use Rattle.code.specs.Shape.{size, groups, room, missing, group, point}
 use Rattle.code.specs.Basis.{constant, good, vanish-from, vanishing, lead, short-basis}
 use Rattle.code.specs.Laws.{Placed}
 use Rattle.code.proofs.Places.{size-least, n-room}
 use Rattle.code.proofs.Points.{locator, group-constant, locator-power}
 
 module _ (s : Shape) where
   abbrev f : ℕ
@@ -44,23 +45,18 @@ module _ (s : Shape) where
   abbrev pub behind : List (Elem (s .field))
   behind = tabulate-from (locator s) (missing s) (s .n)
 
-  constant-is : last-constant .0 ≡ constant s
+  pub constant-is : last-constant .0 ≡ constant s
   unfolding group-constant constant gen
   constant-is = pow-is f (gen f) ((groups s - 1) * size s)
 
-  good-is : (x : Elem f) → goods x .0 ≡ good s (x .0)
+  pub good-is : (x : Elem (s .field)) → goods x .0 ≡ good s (x .0)
   unfolding good
   good-is x = ap₂ (minus f) (pow-is f x (size s)) constant-is
 
-  vanish-is : (x : Elem f) (l p : ℕ) → vanish R (tabulate-from (locator s) l p) x .0 ≡ vanish-from s l p (x .0)
+  pub vanish-is : (x : Elem (s .field)) (l p : ℕ) → vanish (ring-of (s .field)) (tabulate-from (locator s) l p) x .0 ≡ vanish-from s l p (x .0)
   unfolding vanish vanish-from tabulate-from locator
   vanish-is x zero p = refl
   vanish-is x (suc l) p = ap (times f (minus f (x .0) (point s p))) (vanish-is x l (suc p))
-
-  length-behind : (l p : ℕ) → length (tabulate-from (locator s) l p) ≡ l
-  unfolding tabulate-from
-  length-behind zero p = refl
-  length-behind (suc l) p = ap suc (length-behind l (suc p))
 
   unfoldable pub part : Bool → ℕ → Elem (s .field) → Elem (s .field)
   part true m x = R .mul (pow R (goods x) (1 + m / s .r)) (pow R x (m % s .r))
@@ -84,7 +80,7 @@ module _ (s : Shape) where
   pub monic-part : Placed s → (b : Bool) (m : ℕ) → Monic (ring-of (s .field)) (part-degree b m) (part b m)
   unfolding part part-degree
   monic-part P true m = monic-block R (size s) last-constant (size-least s P) (1 + m / s .r) (m % s .r)
-  monic-part P false m = rw (length-behind (missing s) (s .n)) at (monic-vanish R behind (m - lead s))
+  monic-part P false m = rw (length-from (locator s) (missing s) (s .n)) at (monic-vanish R behind (m - lead s))
 
   -- on a group
   pub goods-on-group : Placed s → (j p : ℕ) → group s p ≡ j → goods (locator s p) ≡ R .sub (group-constant s j) last-constant
