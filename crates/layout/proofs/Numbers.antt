@@ -1,28 +1,32 @@
 -- Numbers of the layout that its functions work out. Assumes nothing.
 --   wired-yes, wired-no    what the wiring says
 --   group-is, member-is, first-is, step-is, slot-is    the definitions over numbers that were worked out
---   point-power-below            the exponent of a member's point is below q - 1
+--   point-power-below, group-exponent    the exponents of a member's point and of a group's constant are below q - 1
 --   worked-below, worked-point    the same, and the point, by a width that was worked out
 --   mate-size, mate-is, mate-slot    a mate by its member
+--   group-starts, members-left, members-full    a group's members under wiring 0
+--   behind-group, behind-member, behind-point    the places behind the last slot
 --   steps-round, steps-below         a mate by the steps from the slot's member on
 use mathlib.Core.Path.{_≡_, sym, ap, ap₂, _∙_}
 use mathlib.Core.Logic.{_≢_, _⊎_, inl, inr}
 use mathlib.Core.Bool.{Bool, true, false, cond}
-use Prim.Native.Nat.{ℕ, suc, _+_, _*_, _-_, _/_, _%_, _<_}
+use Prim.Native.Nat.{ℕ, suc, _+_, _*_, _-_, _/_, _%_, _≤_, _<_}
+use native.Mathlib.Nat.{div-add-mod', mul-le-mul-right}
 use native.Mathlib.Decide.{decLt}
 use native.Mathlib.Omega.{arith}
 use borrow.Author.Tests.{eq-eqb, ne-eqb, lt-ltb, le-ltb}
+use lib.Arith.{digits-div, digits-mod}
 use lib.ListN.{length}
 use Rattle.algebra.specs.Sequence.{at}
 use Rattle.algebra.proofs.Each.{each-index}
 use Rattle.field.specs.Field.{q, γ, power}
 use Rattle.code.specs.declared.Shape.{Shape}
-use Rattle.code.specs.Shape.{size, groups, wired, group, member, first, step, members, slot-at, point-at, mates}
+use Rattle.code.specs.Shape.{size, groups, room, missing, whole, wired, group, member, first, step, members, slot-at, point-at, point, mates}
 use Rattle.code.specs.Laws.{Placed}
-use Rattle.code.proofs.Places.{slot-below, group-slot-at, member-slot-at}
+use Rattle.code.proofs.Places.{size-least, whole-no, group-below, remainder, missing-inside, not-wired, slot-at-is, slot-below, group-slot-at, member-slot-at}
 use Rattle.code.proofs.Bounds.{room-byte}
 use Rattle.code.proofs.Points.{exponent-below}
-use Rattle.code.proofs.Mates.{members-most, length-mates, mates-before, mates-after, mates-below}
+use Rattle.code.proofs.Mates.{members-are, first-inside, members-most, length-mates, mates-before, mates-after, mates-below}
 use Rattle.layout.specs.Step.{mate-member, mate-steps}
 
 module _ (s : Shape) where
@@ -83,6 +87,11 @@ module _ (s : Shape) (P : Placed s) where
   point-power-below j i g h =
       rw (group-slot-at s P j i g h, member-slot-at s P j i g h) at (exponent-below s P (slot-at s j i) (slot-below s P j i g h))
 
+  -- the exponent of a group's constant
+  pub group-exponent : (j : ℕ) → j < groups s → j * size s < q (s .field) - 1
+  unfolding room
+  group-exponent j h = omega (arith, mul-le-mul-right (size s) h, P .room-most, size-least s P)
+
   -- the same by a width that was worked out, and the point
   pub worked-below : (j i w : ℕ) → j < groups s → i < size s → w ≡ (q (s .field) - 1) / size s → j + i * w < q (s .field) - 1
   worked-below j i w g h e = rw e (point-power-below j i g h)
@@ -109,3 +118,47 @@ module _ (s : Shape) (P : Placed s) where
 
     pub mate-slot : at (mates s p) i < s .n
     mate-slot = each-index (λ m. m < s .n) (mates s p) (mates-below s P p h) i l
+
+-- the members of a group under wiring 0, by a size that was worked out
+module _ (s : Shape) (P : Placed s) (w : wired s ≡ false) (j : ℕ) (h : j < groups s) (t : ℕ) (e : t ≡ size s) where
+  place : (i : ℕ) → slot-at s j i ≡ j * t + i
+  place i = slot-at-is s j i ∙ ap (λ b. cond b (i * groups s + j) (j * size s + i)) w ∙ ap (λ n. j * n + i) (sym e)
+
+  pub group-starts : j * t < s .n
+  group-starts = omega (arith, first-inside s P j h, place 0)
+
+  pub members-left : s .n - j * t < t → members s j ≡ s .n - j * t
+  members-left l =
+      members-are s P j (s .n - j * t) (omega arith) (λ i b. omega (arith, place i)) (λ i b d. omega (arith, place i, group-starts))
+
+  pub members-full : t ≤ s .n - j * t → members s j ≡ size s
+  members-full l = members-are s P j (size s) (omega arith) (λ i b. omega (arith, place i, e)) (λ i b d. absurd (omega arith))
+
+-- the place that lies i behind the last slot, by a size that was worked out
+module _ (s : Shape) (P : Placed s) (i : ℕ) (h : i < missing s) (t : ℕ) (e : t ≡ size s) where
+  short : whole s ≡ false
+  short = whole-no s (λ z. omega arith)
+
+  pub behind-member : s .n % t + i < size s
+  behind-member = omega (arith, remainder s P short, ap (λ n. s .n % n) e)
+
+  split : s .n + i ≡ s .n / size s * size s + (s .n % size s + i)
+  split = omega (arith, div-add-mod' (s .n) (size s))
+
+  low : s .n % size s + i < size s
+  low = omega (arith, behind-member, ap (λ n. s .n % n) e)
+
+  own-group : group s (s .n + i) ≡ s .n / t
+  unfolding group
+  own-group = ap (λ b. cond b ((s .n + i) % groups s) ((s .n + i) / size s)) (not-wired s P short) ∙ ap (λ n. n / size s) split ∙ digits-div (s .n / size s) low ∙ ap (λ n. s .n / n) (sym e)
+
+  own-member : member s (s .n + i) ≡ s .n % t + i
+  unfolding member
+  own-member = ap (λ b. cond b ((s .n + i) / groups s) ((s .n + i) % size s)) (not-wired s P short) ∙ ap (λ n. n % size s) split ∙ digits-mod (s .n / size s) low ∙ ap (λ n. s .n % n + i) (sym e)
+
+  pub behind-group : s .n / t < groups s
+  behind-group = omega (arith, group-below s P (s .n + i) (missing-inside s P i h), own-group)
+
+  pub behind-point : point-at s (s .n / t) (s .n % t + i) ≡ point s (s .n + i)
+  unfolding point
+  behind-point = sym (ap₂ (point-at s) own-group own-member)

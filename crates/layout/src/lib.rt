@@ -1,101 +1,15 @@
-// Where the symbols of a code stand: questions 1 to 4 and 17, repair groups, slots, mates and evaluation points. No other crate divides by the group size.
+// Where the symbols of a code stand: repair groups, slots, mates and evaluation points. Crate acceptance alone divides by the group size besides.
 ghost use mathlib.Core.Path.{_≡_};
-ghost use Prim.Native.Nat.{_+_, _*_, _-_, _/_, _≤_, _<_};
+ghost use Prim.Native.Nat.{_+_, _*_, _-_, _/_, _%_, _≤_, _<_};
 ghost use lib.ListN.{length};
 ghost use Rattle.algebra.specs.Sequence.{at};
 ghost use Rattle.field.specs.Table.{Powers};
 ghost use Rattle.field.specs.Field.{q, γ, power};
-ghost use Rattle.code.specs.Question.{ask};
-ghost use Rattle.code.specs.Family.{single, n-fits, k-fits, wiring-fits, code-refusal};
-ghost use Rattle.code.specs.Shape.{size, groups, missing, group, member, first, step, slot-at, point-at, point, mates};
-ghost use Rattle.code.specs.Laws.{Placed};
+ghost use Rattle.code.specs.Shape.{size, groups, room, missing, group, member, first, step, slot-at, members, point-at, point, mates, mates-number};
+ghost use Rattle.code.specs.Basis.{constant};
+ghost use Rattle.code.specs.Laws.{Placed, Mending};
 ghost use Rattle.layout.specs.Step.{mate-member, mate-steps, span};
-use code::Code;
 use code::Shape;
-
-// The shape of a code of the paper: groups of r + 1 that stand one loss.
-pub fn single(code: Code) -> Shape
-    ensures { λ x. ⌜ x ≡ single code ⌝ }
-{
-    Shape {
-        field: code.field,
-        r: code.r,
-        n: code.n,
-        k: code.k,
-        wiring: code.wiring,
-        tolerance: 1,
-        second: 0,
-    }
-}
-
-// The refusal of questions 1 to 4 and 17, or 0.
-pub fn code_refusal(code: Code) -> u32
-    ensures { λ x. ⌜ x ≡ code-refusal code ⌝ }
-{
-    let field = code.field;
-    let r = code.r;
-    if field > 1 {
-        return 1;
-    }
-    if r < 1 {
-        return 2;
-    }
-    if r > 16 {
-        return 2;
-    }
-    let most = tables::order(field) - 1;
-    if most % (r + 1) != 0 {
-        return 2;
-    }
-    length_refusal(code, most)
-}
-
-// The refusal of question 17, or 0.
-fn wiring_refusal(code: Code) -> u32
-    requires { ⌜ code .r ≤ 16 ⌝ }
-    ensures { λ x. ⌜ x ≡ ask (wiring-fits (single code)) 17 0 ⌝ }
-{
-    let wiring = code.wiring;
-    let n = code.n;
-    let size = code.r + 1;
-    if wiring > 1 {
-        return 17;
-    }
-    if wiring == 0 {
-        return 0;
-    }
-    if n % size != 0 {
-        return 17;
-    }
-    0
-}
-
-// The refusal of questions 3, 4 and 17, or 0; most is q - 1.
-fn length_refusal(code: Code, most: u32) -> u32
-    requires { ⌜ (code .r ≤ 16) × (most ≡ q (code .field) - 1) × (most ≤ 255) ⌝ }
-    ensures { λ x. ⌜ x ≡ ask (n-fits (single code)) 3 (ask (k-fits (single code)) 4 (ask (wiring-fits (single code)) 17 0)) ⌝ }
-{
-    let r = code.r;
-    let n = code.n;
-    let k = code.k;
-    let size = r + 1;
-    if n % size != 0 {
-        return 3;
-    }
-    if n < size {
-        return 3;
-    }
-    if n > most {
-        return 3;
-    }
-    if k < 1 {
-        return 4;
-    }
-    if k > r * (n / size) {
-        return 4;
-    }
-    wiring_refusal(code)
-}
 
 // The members of a whole group.
 pub fn size_of(shape: Shape) -> u32
@@ -119,7 +33,33 @@ pub fn missing_of(shape: Shape) -> u32
     requires { ⌜ Placed shape ⌝ }
     ensures { λ x. ⌜ x ≡ missing shape ⌝ }
 {
-    groups_of(shape) * size_of(shape) - shape.n
+    let n = shape.n;
+    room_of(shape) - n
+}
+
+// The places of whole groups.
+pub fn room_of(shape: Shape) -> u32
+    requires { ⌜ Placed shape ⌝ }
+    ensures { λ x. ⌜ (x ≡ room shape) × (x ≤ 255) ⌝ }
+{
+    groups_of(shape) * size_of(shape)
+}
+
+// The power size of the points of a group.
+pub fn group_power(shape: Shape, group: u32, powers: &[u8; 255]) -> u8
+    requires { ⌜ Powers 1 (now powers) × Placed shape × (group < groups shape) ⌝ }
+    ensures { λ z. ⌜ z ≡ power (shape .field) γ (group * size shape) ⌝ }
+{
+    let e = group * size_of(shape);
+    tables::power_at(shape.field, e, powers)
+}
+
+// That power of the last group's points: the constant of a short code's good polynomial.
+pub fn constant_of(shape: Shape, powers: &[u8; 255]) -> u8
+    requires { ⌜ Powers 1 (now powers) × Placed shape ⌝ }
+    ensures { λ z. ⌜ z ≡ constant shape ⌝ }
+{
+    group_power(shape, groups_of(shape) - 1, powers)
 }
 
 // The first slot of a group.
@@ -144,12 +84,30 @@ pub fn step_of(shape: Shape) -> u32
     1
 }
 
-// How many slots there are from a group's first member to its last: the group's own, and under wiring 1 those of others between them.
-pub fn span_of(shape: Shape) -> u32
-    requires { ⌜ Placed shape ⌝ }
-    ensures { λ x. ⌜ x ≡ span shape ⌝ }
+// How many members of a group are slots: fewer than the size in a short last group.
+pub fn members_of(shape: Shape, group: u32) -> u32
+    requires { ⌜ Placed shape × (group < groups shape) ⌝ }
+    ensures { λ x. ⌜ (x ≡ members shape group) × (1 ≤ x) × (x ≤ size shape) ⌝ }
 {
-    (size_of(shape) - 1) * step_of(shape) + 1
+    let n = shape.n;
+    let wiring = shape.wiring;
+    let size = size_of(shape);
+    if wiring == 1 {
+        return size;
+    }
+    let left = n - group * size;
+    if left < size {
+        return left;
+    }
+    size
+}
+
+// How many slots there are from a group's first member to its last: the group's own, and under wiring 1 those of others between them.
+pub fn span_of(shape: Shape, group: u32) -> u32
+    requires { ⌜ Placed shape × (group < groups shape) ⌝ }
+    ensures { λ x. ⌜ x ≡ span shape group ⌝ }
+{
+    (members_of(shape, group) - 1) * step_of(shape) + 1
 }
 
 // The place of a member of a group.
@@ -190,7 +148,7 @@ pub fn width_of(shape: Shape) -> u32
     (tables::order(shape.field) - 1) / size_of(shape)
 }
 
-// The evaluation point of a member of a group, by that width and the table over bytes: for loops, which take both once.
+// The evaluation point of a member of a group, by that width and the table over bytes: for loops, which take the width once.
 pub fn member_point(field: u32, width: u32, group: u32, member: u32, powers: &[u8; 255]) -> u8
     requires { ⌜ Powers 1 (now powers) × (group + member * width < q field - 1) ⌝ }
     ensures { λ x. ⌜ x ≡ power field γ (group + member * width) ⌝ }
@@ -199,20 +157,29 @@ pub fn member_point(field: u32, width: u32, group: u32, member: u32, powers: &[u
 }
 
 // The evaluation point of a member of a group.
-pub fn point_at(shape: Shape, group: u32, member: u32) -> u8
-    requires { ⌜ Placed shape × (group < groups shape) × (member < size shape) ⌝ }
+pub fn point_at(shape: Shape, group: u32, member: u32, powers: &[u8; 255]) -> u8
+    requires { ⌜ Powers 1 (now powers) × Placed shape × (group < groups shape) × (member < size shape) ⌝ }
     ensures { λ x. ⌜ x ≡ point-at shape group member ⌝ }
 {
-    let powers = tables::power_table();
-    member_point(shape.field, width_of(shape), group, member, &powers)
+    member_point(shape.field, width_of(shape), group, member, powers)
 }
 
 // The evaluation point of a slot.
-pub fn point_of(shape: Shape, slot: u32) -> u8
-    requires { ⌜ Placed shape × (slot < shape .n) ⌝ }
+pub fn point_of(shape: Shape, slot: u32, powers: &[u8; 255]) -> u8
+    requires { ⌜ Powers 1 (now powers) × Placed shape × (slot < shape .n) ⌝ }
     ensures { λ x. ⌜ x ≡ point shape slot ⌝ }
 {
-    point_at(shape, group_of(shape, slot), member_of(shape, slot))
+    point_at(shape, group_of(shape, slot), member_of(shape, slot), powers)
+}
+
+// The evaluation point of the place that lies i behind the last slot: a missing member of a short last group.
+pub fn missing_point(shape: Shape, i: u32, powers: &[u8; 255]) -> u8
+    requires { ⌜ Powers 1 (now powers) × Placed shape × (i < missing shape) ⌝ }
+    ensures { λ x. ⌜ x ≡ point shape (shape .n + i) ⌝ }
+{
+    let n = shape.n;
+    let size = size_of(shape);
+    point_at(shape, n / size, n % size + i, powers)
 }
 
 // The member of a group of which member is one that is its mate i: members in order, but for member.
@@ -245,4 +212,16 @@ pub fn mate_of(shape: Shape, slot: u32, i: u32) -> u32
     let group = group_of(shape, slot);
     let member = member_of(shape, slot);
     slot_at(shape, group, mate_member(member, i))
+}
+
+// How many mates' symbols repair wants for a slot: r where there is no such slot.
+pub fn mates_number(shape: Shape, slot: u32) -> u32
+    requires { ⌜ Mending shape ⌝ }
+    ensures { λ x. ⌜ (x ≡ mates-number shape slot) × (x ≤ 16) ⌝ }
+{
+    let n = shape.n;
+    if slot >= n {
+        return shape.r;
+    }
+    members_of(shape, group_of(shape, slot)) - 1
 }

@@ -3,9 +3,9 @@ use mathlib.Core.Path.{refl}
 use Rattle.code.specs.Shape.{size}
 use Rattle.code.specs.Family.{single}
 use Rattle.code.proofs.Questions.{ask-no, ask-yes}
-use Rattle.layout.proofs.Fits.{wiring-large, wiring-none, wiring-odd, wiring-good}
-use Rattle.layout.proofs.wiring_refusal.Statement.{statement}
-use Rattle.layout.proofs.wiring_refusal.Tie as tie
+use Rattle.acceptance.proofs.Fits.{wiring-large, wiring-none, wiring-odd, wiring-good}
+use Rattle.acceptance.proofs.wiring_refusal.Statement.{statement}
+use Rattle.acceptance.proofs.wiring_refusal.Tie as tie
 
 add-size : tie.Need-add-size
 add-size c = search needs

@@ -8,9 +8,9 @@ use Rattle.code.specs.declared.Shape.{Shape}
 use Rattle.code.specs.Shape.{size}
 use Rattle.code.specs.Family.{single, field-known, code-refusal}
 use Rattle.code.proofs.Questions.{ask-no, ask-yes}
-use Rattle.layout.proofs.Fits.{r-small, r-large, r-odd, r-good}
-use Rattle.layout.proofs.code_refusal.Statement.{statement}
-use Rattle.layout.proofs.code_refusal.Tie as tie
+use Rattle.acceptance.proofs.Fits.{r-small, r-large, r-odd, r-good}
+use Rattle.acceptance.proofs.code_refusal.Statement.{statement}
+use Rattle.acceptance.proofs.code_refusal.Tie as tie
 
 known : (s : Shape) → s .field ≤ 1 → field-known s ≡ true
 unfolding field-known
@@ -52,7 +52,7 @@ returns-4 c =
     (ask-no 2 _ (r-odd a (λ e. c .if4 .taken (ap (λ m. (m - 1) % (a .r + 1)) (c .before .order .ensures .0) ∙ e))))
 
 length-refusal-requires : tie.Need-length-refusal-requires
-length-refusal-requires c κs = (omega arith, ap (λ m. m - 1) (c .before .order .ensures .0), omega (arith, c .before .order .ensures .2))
+length-refusal-requires c κs = (omega arith, omega arith, ap (λ m. m - 1) (c .before .order .ensures .0), omega (arith, c .before .order .ensures .2))
 
 returns-5 : tie.Need-returns-5
 unfolding code-refusal size
