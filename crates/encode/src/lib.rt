@@ -1,15 +1,15 @@
 // The codeword of a message, group by group.
 ghost use mathlib.Core.Path.{_≡_};
-ghost use mathlib.Core.Bool.{true};
-ghost use Prim.Native.Nat.{_<_};
+ghost use mathlib.Core.Bool.{true, false};
+ghost use Prim.Native.Nat.{_+_, _<_};
 ghost use lib.ListN.{length};
 ghost use Rattle.field.specs.Table.{Powers, Logs};
 ghost use Rattle.code.specs.Family.{single, code-refusal};
-ghost use Rattle.code.specs.Shape.{groups};
+ghost use Rattle.code.specs.Shape.{groups, missing, whole};
 ghost use Rattle.code.specs.Codeword.{is-message, encoded};
-ghost use Rattle.code.specs.Laws.{Plain};
+ghost use Rattle.code.specs.Laws.{Placed, Plain};
 ghost use Rattle.encode.specs.Encode.{encode-refusal, Encode-says};
-ghost use Rattle.encode.specs.Step.{Group-written};
+ghost use Rattle.encode.specs.Step.{evaluated, Group-written};
 use code::Code;
 use code::Shape;
 
@@ -29,31 +29,69 @@ fn encode_refusal(refusal: u32, shape: Shape, message: &[u8], length: usize) -> 
     )
 }
 
-// Writes the symbols of a group to its slots.
+// Writes the values of a row's polynomial to the slots of a group.
 fn write_group(
     shape: Shape,
-    message: &[u8],
+    row: &[u8],
+    c: u8,
     group: u32,
     codeword: &mut [u8],
     powers: &[u8; 255],
     logs: &[u8; 256],
 )
-    requires { ⌜ Powers 1 (now powers) × Logs (now logs) × Plain shape × (is-message shape (now message) ≡ true) × (group < groups shape) × (length (now codeword) ≡ shape .n) ⌝ }
-    ensures { λ _. ⌜ Group-written shape (now (message .entry)) group (now (codeword .entry)) (now (codeword .exit)) ⌝ }
+    requires { ⌜ Powers 1 (now powers) × Logs (now logs) × Placed shape × (group < groups shape) × (length (now codeword) ≡ shape .n) ⌝ }
+    ensures { λ _. ⌜ Group-written shape c (now (row .entry)) group (now (codeword .entry)) (now (codeword .exit)) ⌝ }
 {
-    let size = layout::size_of(shape) as usize;
+    let members = layout::members_of(shape, group) as usize;
     let first = layout::first_of(shape, group) as usize;
     let step = layout::step_of(shape) as usize;
-    let symbols = local_code::group_symbols(shape, message, group, powers, logs);
+    let symbols = local_code::group_symbols(shape, row, c, group, powers, logs);
     let mut i: usize = 0;
-    while i < size {
+    while i < members {
         codeword[first + i * step] = symbols[i];
         i += 1;
     }
 }
 
-// Writes the codeword of a message, group by group.
+// Writes the values of a row's polynomial to all slots, group by group.
 fn write_codeword(
+    shape: Shape,
+    row: &[u8],
+    c: u8,
+    codeword: &mut [u8],
+    powers: &[u8; 255],
+    logs: &[u8; 256],
+)
+    requires { ⌜ Powers 1 (now powers) × Logs (now logs) × Placed shape × (length (now codeword) ≡ shape .n) ⌝ }
+    ensures { λ _. ⌜ now (codeword .exit) ≡ evaluated shape c (now (row .entry)) ⌝ }
+{
+    let groups = layout::groups_of(shape);
+    let mut group: u32 = 0;
+    while group < groups {
+        write_group(shape, row, c, group, codeword, powers, logs);
+        group += 1;
+    }
+}
+
+// Writes the codeword of a message of a code with a short last group: of its row, in powers of g.
+fn write_short(
+    shape: Shape,
+    message: &[u8],
+    row: &mut [u8],
+    codeword: &mut [u8],
+    powers: &[u8; 255],
+    logs: &[u8; 256],
+)
+    requires { ⌜ Powers 1 (now powers) × Logs (now logs) × Plain shape × (whole shape ≡ false) × (is-message shape (now message) ≡ true) × (length (now row) ≡ shape .k + missing shape) × (length (now codeword) ≡ shape .n) ⌝ }
+    ensures { λ _. ⌜ now (codeword .exit) ≡ encoded shape (now (message .entry)) ⌝ }
+{
+    lengthening::expand(shape, message, row, powers, logs);
+    let c = layout::constant_of(shape, powers);
+    write_codeword(shape, row, c, codeword, powers, logs);
+}
+
+// Writes the codeword of a message. Where groups are whole the message is its row, in powers of X to the power of the group size.
+fn write_message(
     shape: Shape,
     message: &[u8],
     codeword: &mut [u8],
@@ -63,15 +101,18 @@ fn write_codeword(
     requires { ⌜ Powers 1 (now powers) × Logs (now logs) × Plain shape × (is-message shape (now message) ≡ true) × (length (now codeword) ≡ shape .n) ⌝ }
     ensures { λ _. ⌜ now (codeword .exit) ≡ encoded shape (now (message .entry)) ⌝ }
 {
-    let groups = layout::groups_of(shape);
-    let mut group: u32 = 0;
-    while group < groups {
-        write_group(shape, message, group, codeword, powers, logs);
-        group += 1;
+    let missing = layout::missing_of(shape) as usize;
+    if missing == 0 {
+        write_codeword(shape, message, 0, codeword, powers, logs);
+    } else {
+        let long = message.len() + missing;
+        let mut room = [0u8; 256];
+        let row = &mut room[..long];
+        write_short(shape, message, row, codeword, powers, logs);
     }
 }
 
-// Encodes for any plain family, after the refusal of the questions on its numbers.
+// Encodes for any plain family, whole groups or a short last one, after the refusal of the questions on its numbers.
 pub fn encode_with(refusal: u32, shape: Shape, message: &[u8], codeword: &mut [u8]) -> u32
     requires { ⌜ (refusal ≡ 0 → Plain shape) ⌝ }
     ensures { λ x. ⌜ Encode-says refusal shape (now (message .entry)) x (now (codeword .entry)) (now (codeword .exit)) ⌝ }
@@ -82,7 +123,7 @@ pub fn encode_with(refusal: u32, shape: Shape, message: &[u8], codeword: &mut [u
     }
     let powers = tables::power_table();
     let logs = tables::log_table();
-    write_codeword(shape, message, codeword, &powers, &logs);
+    write_message(shape, message, codeword, &powers, &logs);
     0
 }
 
@@ -91,8 +132,8 @@ pub fn encode(code: Code, message: &[u8], codeword: &mut [u8]) -> u32
     ensures { λ x. ⌜ Encode-says (code-refusal code) (single code) (now (message .entry)) x (now (codeword .entry)) (now (codeword .exit)) ⌝ }
 {
     encode_with(
-        layout::code_refusal(code),
-        layout::single(code),
+        acceptance::code_refusal(code),
+        acceptance::single(code),
         message,
         codeword,
     )

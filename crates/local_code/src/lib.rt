@@ -1,12 +1,10 @@
 // The symbols of a repair group: the values of its local polynomial at its points.
 ghost use mathlib.Core.Path.{_≡_};
-ghost use mathlib.Core.Bool.{true};
 ghost use Prim.Native.Nat.{_+_, _-_, _%_, _≤_, _<_};
 ghost use lib.ListN.{length, take};
 ghost use Rattle.field.specs.Table.{Powers, Logs};
 ghost use Rattle.code.specs.Shape.{groups};
-ghost use Rattle.code.specs.Codeword.{is-message};
-ghost use Rattle.code.specs.Laws.{Placed, Plain};
+ghost use Rattle.code.specs.Laws.{Placed};
 ghost use Rattle.local_code.specs.Step.{local-coefs, Group-points, Horner-step, Values-at, Group-symbols};
 use code::Shape;
 
@@ -21,40 +19,40 @@ fn place_before(i: usize, r: usize) -> usize
     i - 1
 }
 
-// The coefficients of the local polynomial where the power size of x is y, message symbols from the last to the first.
+// The coefficients of the local polynomial at the level y, entries of the row from the last to the first.
 fn local_polynomial(
     shape: Shape,
-    message: &[u8],
+    row: &[u8],
     y: u8,
     powers: &[u8; 255],
     logs: &[u8; 256],
 ) -> [u8; 16]
-    requires { ⌜ Powers 1 (now powers) × Logs (now logs) × Placed shape × (length (now message) ≡ shape .k) ⌝ }
-    ensures { λ z. ⌜ (length z ≡ 16) × (take (shape .r) z ≡ local-coefs shape y (now (message .entry))) ⌝ }
+    requires { ⌜ Powers 1 (now powers) × Logs (now logs) × Placed shape ⌝ }
+    ensures { λ z. ⌜ (length z ≡ 16) × (take (shape .r) z ≡ local-coefs shape y (now (row .entry))) ⌝ }
 {
     let field = shape.field;
     let r = shape.r as usize;
-    let mut m = shape.k as usize;
+    let mut m = row.len();
     let mut i = m % r;
     let mut local = [0u8; 16];
     while m > 0 {
         m -= 1;
         i = place_before(i, r);
-        local[i] = arithmetic::mul_add(field, message[m], y, local[i], powers, logs);
+        local[i] = arithmetic::mul_add(field, row[m], y, local[i], powers, logs);
     }
     local
 }
 
 // The points of a group's members.
-fn points_of(shape: Shape, group: u32) -> [u8; 17]
-    requires { ⌜ Placed shape × (group < groups shape) ⌝ }
+fn points_of(shape: Shape, group: u32, powers: &[u8; 255]) -> [u8; 17]
+    requires { ⌜ Powers 1 (now powers) × Placed shape × (group < groups shape) ⌝ }
     ensures { λ z. ⌜ Group-points shape group z ⌝ }
 {
     let size = layout::size_of(shape);
     let mut points = [0u8; 17];
     let mut i: u32 = 0;
     while i < size {
-        points[i as usize] = layout::point_at(shape, group, i);
+        points[i as usize] = layout::point_at(shape, group, i, powers);
         i += 1;
     }
     points
@@ -110,22 +108,24 @@ fn values_at(
     values
 }
 
-// The symbols of a group: its local polynomial at the points of its members.
+// The symbols of a group: the local polynomial of a row, in powers of X to the power size less c, at the points of its members.
 pub fn group_symbols(
     shape: Shape,
-    message: &[u8],
+    row: &[u8],
+    c: u8,
     group: u32,
     powers: &[u8; 255],
     logs: &[u8; 256],
 ) -> [u8; 17]
-    requires { ⌜ Powers 1 (now powers) × Logs (now logs) × Plain shape × (is-message shape (now message) ≡ true) × (group < groups shape) ⌝ }
-    ensures { λ z. ⌜ Group-symbols shape (now (message .entry)) group z ⌝ }
+    requires { ⌜ Powers 1 (now powers) × Logs (now logs) × Placed shape × (group < groups shape) ⌝ }
+    ensures { λ z. ⌜ Group-symbols shape c (now (row .entry)) group z ⌝ }
 {
     let field = shape.field;
     let r = shape.r as usize;
     let size = layout::size_of(shape);
-    let points = points_of(shape, group);
-    let y = arithmetic::power_of(field, points[0], size, powers, logs);
-    let local = local_polynomial(shape, message, y, powers, logs);
+    let points = points_of(shape, group, powers);
+    let power = layout::group_power(shape, group, powers);
+    let y = arithmetic::sub(field, power, c);
+    let local = local_polynomial(shape, row, y, powers, logs);
     values_at(field, &local, r, &points, size as usize, powers, logs)
 }

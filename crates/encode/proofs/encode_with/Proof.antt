@@ -25,8 +25,8 @@ power-table-requires c κs = search needs
 log-table-requires : tie.Need-log-table-requires
 log-table-requires c κs = search needs
 
-write-codeword-requires : tie.Need-write-codeword-requires
-write-codeword-requires c κs =
+write-message-requires : tie.Need-write-message-requires
+write-message-requires c κs =
     let s = c .before .before .before .before .before .before .before .before .before in
     let a = s .args in
     let P = encode-passed (a .refusal) (a .shape) (a .message .now) (length (a .codeword .now))
@@ -48,7 +48,7 @@ returns-2 c =
     fills-yes (encode-refusal (a .refusal) (a .shape) (a .message .now) (length (a .codeword .now))) (encoded (a .shape) (a .message .now)) 0
     (a .codeword .now) _
     (sym (c .before .before .before .before .before .before .before .before .before .encode-refusal .ensures) ∙ c .before .before .before .before .before .before .before .before .if1 .left) refl
-    (c .before .before .write-codeword .ensures)
+    (c .before .before .write-message .ensures)
 
 pub encode-with-spec : {M : Type 1} → statement M
 encode-with-spec =
@@ -58,6 +58,6 @@ encode-with-spec =
     returns
     power-table-requires
     log-table-requires
-    write-codeword-requires
+    write-message-requires
     same-length
     returns-2)

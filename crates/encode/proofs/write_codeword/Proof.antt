@@ -8,18 +8,18 @@ use Rattle.encode.proofs.write_codeword.Statement.{statement}
 use Rattle.encode.proofs.write_codeword.Tie as tie
 
 abbrev Inv-loop : tie.InvT-loop
-Inv-loop shape message codeword₀ powers logs groups group₀ codeword group = (group ≤ groups) × Groups-written shape message group codeword
+Inv-loop shape row c codeword₀ powers logs groups group₀ codeword group = (group ≤ groups) × Groups-written shape c row group codeword
 
 abbrev μ-loop : tie.MeasureT-loop
-μ-loop shape message codeword₀ powers logs groups group₀ codeword group = groups - group
+μ-loop shape row c codeword₀ powers logs groups group₀ codeword group = groups - group
 
 groups-of-requires : tie.Need-groups-of-requires Inv-loop μ-loop
-groups-of-requires c κs = c .before .before .pre .2 .family .placed
+groups-of-requires c κs = c .before .before .pre .2
 
 loop-holds : tie.Need-loop-holds Inv-loop μ-loop
 loop-holds c =
     let s = c .before .before .before in
-    (omega arith, groups-none (s .args .shape) (s .args .message .now) (s .args .codeword .now) (s .pre .4))
+    (omega arith, groups-none (s .args .shape) (s .args .c) (s .args .row .now) (s .args .codeword .now) (s .pre .3))
 
 write-group-requires : tie.Need-write-group-requires Inv-loop μ-loop
 write-group-requires c κs =
@@ -27,7 +27,6 @@ write-group-requires c κs =
       s .pre .0,
       s .pre .1,
       s .pre .2,
-      s .pre .3,
       omega (arith, c .before .loop-test .taken, c .before .before .before .groups-of .ensures),
       c .before .before .loop .inv .1 .room,
     )
@@ -35,7 +34,7 @@ write-group-requires c κs =
 add-group : tie.Need-add-group Inv-loop μ-loop
 add-group c =
     let s = c .before .before .before .before .before .before .before .before .before in
-    omega (arith, groups-most (s .args .shape) (s .pre .2 .family .placed), c .before .before .before .before .before .before .groups-of .ensures)
+    omega (arith, groups-most (s .args .shape) (s .pre .2), c .before .before .before .before .before .before .groups-of .ensures)
 
 loop-less : tie.Need-loop-less Inv-loop μ-loop
 loop-less c = omega arith
@@ -45,17 +44,17 @@ loop-again c =
     let a = c .before .before .before .before .before .before .before .before .before .args in
     let l = c .before .before .before .before .before .loop in
     let w = c .before .before .write-group in
-    (omega arith, groups-more (a .shape) (a .message .now) (l .group) (l .codeword) (w .last .1 .1 .1 .0) (w .ensures) (l .inv .1))
+    (omega arith, groups-more (a .shape) (a .c) (a .row .now) (l .group) (l .codeword) (w .last .1 .1 .1 .1 .0) (w .ensures) (l .inv .1))
 
 same-length : tie.Need-same-length Inv-loop μ-loop
-same-length c = c .before .loop .inv .1 .room ∙ sym (c .before .before .before .before .before .pre .4)
+same-length c = c .before .loop .inv .1 .room ∙ sym (c .before .before .before .before .before .pre .3)
 
 returns : tie.Need-returns Inv-loop μ-loop
 returns c =
     let s = c .before .before .before .before .before in
     let l = c .before .loop in
     let z : l .group ≡ groups (s .args .shape) = omega (arith, c .before .before .groups-of .ensures) in
-    groups-all (s .args .shape) (s .args .message .now) (s .pre .2 .family .placed) (l .group) (l .codeword) z (l .inv .1)
+    groups-all (s .args .shape) (s .args .c) (s .args .row .now) (s .pre .2) (l .group) (l .codeword) z (l .inv .1)
 
 pub write-codeword-spec : {M : Type 1} → statement M
 write-codeword-spec =

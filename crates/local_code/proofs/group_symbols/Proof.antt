@@ -2,7 +2,6 @@ use borrow.Author.Needs.{needs}
 use native.Mathlib.Omega.{arith}
 use lib.ListN.{take}
 use Rattle.code.proofs.Bounds.{r-most}
-use Rattle.code.proofs.Codewords.{message-is}
 use Rattle.local_code.proofs.Symbols.{group-symbols-are}
 use Rattle.local_code.proofs.group_symbols.Statement.{statement}
 use Rattle.local_code.proofs.group_symbols.Tie as tie
@@ -11,21 +10,21 @@ cast-r : tie.Need-cast-r
 cast-r c = search needs
 
 size-of-requires : tie.Need-size-of-requires
-size-of-requires c κs = c .before .before .pre .2 .family .placed
+size-of-requires c κs = c .before .before .pre .2
 
 points-of-requires : tie.Need-points-of-requires
-points-of-requires c κs = let s = c .before .before .before in (s .pre .2 .family .placed, s .pre .4)
+points-of-requires c κs = let s = c .before .before .before in (s .pre .0, s .pre .2, s .pre .3)
 
-array-read-power-of : tie.Need-array-read-power-of
-array-read-power-of c = search needs
+group-power-requires : tie.Need-group-power-requires
+group-power-requires c κs = search needs
 
-power-of-requires : tie.Need-power-of-requires
-power-of-requires c κs = search needs
+sub-requires : tie.Need-sub-requires
+sub-requires c κs = search needs
 
 local-polynomial-requires : tie.Need-local-polynomial-requires
 local-polynomial-requires c κs =
-    let s = c .before .before .before .before .before in
-    (s .pre .0, s .pre .1, s .pre .2 .family .placed, message-is (s .args .shape) (s .args .message .now) (s .pre .3) .length-is)
+    let s = c .before .before .before .before .before .before in
+    (s .pre .0, s .pre .1, s .pre .2)
 
 slice-aggregate-values-at : tie.Need-slice-aggregate-values-at
 slice-aggregate-values-at c = search needs
@@ -38,26 +37,27 @@ cast-values-at c = search needs
 
 values-at-requires : tie.Need-values-at-requires
 values-at-requires c κs =
-    let s = c .before .before .before .before .before .before .before .before in
-    let P = s .pre .2 .family .placed in
-    let size = c .before .before .before .before .before .size-of in (
+    let s = c .before .before .before .before .before .before .before .before .before in
+    let P = s .pre .2 in
+    let size = c .before .before .before .before .before .before .size-of in (
       s .pre .0,
       s .pre .1,
       omega (arith, r-most (s .args .shape) P, c .before .before .local-polynomial .ensures .0),
-      omega (arith, P .size-most, size .ensures, c .before .before .before .before .points-of .ensures .room),
+      omega (arith, P .size-most, size .ensures, c .before .before .before .before .before .points-of .ensures .room),
       omega (arith, P .size-most, size .ensures),
     )
 
 returns : tie.Need-returns
 returns c =
-    let s = c .before .before .before .before .before .before .before .before .before in
+    let s = c .before .before .before .before .before .before .before .before .before .before in
     let a = s .args in
     let L = c .before .before .before .local-polynomial in
-    let y = c .before .before .before .before .power-of in
-    let X = c .before .before .before .before .before .points-of in
-    let size = c .before .before .before .before .before .before .size-of in
-    group-symbols-are (a .shape) (s .pre .2) (a .message .now) (message-is (a .shape) (a .message .now) (s .pre .3)) (a .group) (size .result) (y .result)
-    (X .result) (take (a .shape .r) (L .result)) (c .values-at .result) (s .pre .4) (size .ensures) (X .ensures) (y .ensures) (L .ensures .1) (c .values-at .ensures)
+    let d = c .before .before .before .before .sub in
+    let y = c .before .before .before .before .before .group-power in
+    let X = c .before .before .before .before .before .before .points-of in
+    let size = c .before .before .before .before .before .before .before .size-of in
+    group-symbols-are (a .shape) (s .pre .2) (a .c) (a .row .now) (a .group) (size .result) (y .result) (d .result)
+    (X .result) (take (a .shape .r) (L .result)) (c .values-at .result) (s .pre .3) (size .ensures) (X .ensures) (y .ensures) (d .ensures) (L .ensures .1) (c .values-at .ensures)
 
 pub group-symbols-spec : {M : Type 1} → statement M
 group-symbols-spec =
@@ -66,8 +66,8 @@ group-symbols-spec =
     cast-r
     size-of-requires
     points-of-requires
-    array-read-power-of
-    power-of-requires
+    group-power-requires
+    sub-requires
     local-polynomial-requires
     slice-aggregate-values-at
     slice-aggregate-values-at-2
