@@ -17,14 +17,14 @@ use Rattle.algebra.proofs.Booleans.{differ}
 use Rattle.algebra.proofs.Strides.{row-step}
 use Rattle.field.specs.Field.{q}
 use Rattle.field.specs.Polynomial.{dotted}
-use Rattle.field.proofs.Elem.{power-below}
+use Rattle.field.proofs.Elements.{poly-below}
 use Rattle.field.proofs.Products.{dotted-take}
-use Rattle.code.specs.Shape.{whole, point}
-use Rattle.code.specs.Basis.{basis, exponent}
+use Rattle.code.specs.Shape.{point}
+use Rattle.code.specs.Basis.{basis}
 use Rattle.code.specs.Codeword.{symbol}
+use Rattle.code.specs.Laws.{Family}
 use Rattle.code.specs.declared.Shape.{Shape}
 use Rattle.code.proofs.Points.{point-below}
-use Rattle.code.proofs.Monomial.{basis-power}
 use Rattle.linear.specs.System.{Vector, entry, coefs, residue, Solved, Echelon, Inserted}
 use Rattle.linear.proofs.Elements.{echelon-kept, residue-kept}
 use Rattle.linear.proofs.Substitution.{cleared-echelon, cleared-solved}
@@ -44,7 +44,7 @@ part-room s a E =
     omega (arith, E .room, length-drop t a, length-take-le (length a - t) (drop t a) (omega (arith, length-drop t a)))
 
 -- a buffer whose newcomer is slot p's generator row
-module _ (s : Shape) (p : ℕ) (w : whole s ≡ true) (a z : List ℕ) (E : Echelon (s .field) (s .k) a) (R : Generator-row s p (midOf (start s) (length a - start s) a) z) where
+module _ (s : Shape) (p : ℕ) (L : Family s) (a z : List ℕ) (E : Echelon (s .field) (s .k) a) (R : Generator-row s p (midOf (start s) (length a - start s) a) z) where
   abbrev b : List ℕ
   b = putMid (start s) (length a - start s) a z
 
@@ -79,7 +79,9 @@ module _ (s : Shape) (p : ℕ) (w : whole s ≡ true) (a z : List ℕ) (E : Eche
   filled-echelon = echelon-kept (s .field) (s .k) a b E room kept
 
   pub filled-below : (m : ℕ) → m < s .k → entry (s .k) b (s .k) m < q (s .field)
-  filled-below m h = rw (row m h, basis-power s m (point s p) w) (power-below (s .field) (point s p) (exponent s m) (point-below s p))
+  filled-below m h =
+      let B = L .bounded m h in
+      rw (row m h, B .is (point s p) (point-below s p)) (poly-below (s .field) (B .coefs) (point s p))
 
   same : (ys : List ℕ) → Vector (s .field) (s .k) ys → (i : ℕ) → i < s .k → residue (s .field) (s .k) b i ys ≡ residue (s .field) (s .k) a i ys
   same ys v i h = residue-kept (s .field) (s .k) a b E room kept i ys h v

@@ -1,80 +1,117 @@
--- Generator rows: how the exponent grows along a row, and a slot's symbol as message times row. Assumes nothing.
---   power-zero, power-same, power-more    the basis polynomials' values: the first; the next, where a block of r is not full and where it is
+-- Generator rows: the basis polynomials' values, and a slot's symbol as message times row. Assumes nothing.
+--   basis-whole, basis-first, basis-rest  the basis polynomials in blocks and in a run
+--   lead-worked                           how many of a short last group's are in blocks
+--   row-whole, row-short                  blocks, or blocks and a run behind them, are a row
 --   symbol-is                             a message times a slot's row is the slot's symbol
 use mathlib.Core.Path.{_≡_, refl, sym, ap, ap₂, _∙_}
 use mathlib.Core.Logic.{_≢_}
+use mathlib.Core.Bool.{true, false, cond}
 use mathlib.Core.List.{List, [], _∷_}
-use Prim.Native.Nat.{ℕ, zero, suc, _+_, _*_, _-_, _/_, _%_, _≤_, _<_}
-use native.Mathlib.Nat.{div-add-mod', mod-lt, zero-div}
+use Prim.Native.Nat.{ℕ, suc, _+_, _*_, _-_, _/_, _%_, _≤_, _<_}
+use native.Mathlib.Nat.{mul-comm}
+use native.Mathlib.Decide.{decLt}
 use native.Mathlib.Omega.{arith}
-use lib.Arith.{digits-div}
+use borrow.Author.Tests.{lt-ltb, le-ltb}
 use lib.ListN.{length, take}
 use lib.Seq.{take-length, length-take-le, getD-take}
+use Rattle.algebra.specs.Ring.{pow}
 use Rattle.algebra.specs.Sequence.{at}
-use Rattle.algebra.proofs.Ring.{pow-add}
-use Rattle.field.specs.Field.{q, plus, times, power}
+use Rattle.algebra.specs.Writing.{Written}
+use Rattle.algebra.proofs.Ring.{pow-add, pow-mul}
+use Rattle.algebra.proofs.Locality.{raised}
+use Rattle.field.specs.Field.{q, γ, plus, minus, times, power}
 use Rattle.field.specs.Polynomial.{dotted}
-use Rattle.field.proofs.Elem.{ring-of, pow-is}
-use Rattle.code.specs.Shape.{point}
-use Rattle.code.specs.Basis.{exponent, basis}
+use Rattle.field.proofs.Elem.{Elem, ring-of, pow-is}
+use Rattle.code.specs.Shape.{size, missing, whole, group, point}
+use Rattle.code.specs.Basis.{constant, good, vanishing, lead, whole-basis, short-basis, basis}
 use Rattle.code.specs.Codeword.{value-from, value, symbol}
-use Rattle.code.specs.Laws.{Plain}
+use Rattle.code.specs.Laws.{Placed, Plain}
+use Rattle.code.specs.Promise.{Group-power}
 use Rattle.code.specs.declared.Shape.{Shape}
-use Rattle.code.proofs.Grouped.{exponent-is}
+use Rattle.code.proofs.Places.{n-room, whole-yes, whole-no}
+use Rattle.code.proofs.Bounds.{lead-is, lead-most}
+use Rattle.code.proofs.Points.{point-below, group-power}
+use Rattle.code.proofs.Monomial.{basis-power}
+use Rattle.code.proofs.Grouped.{exponent-raised}
+use Rattle.generator_matrix.specs.Row.{Generator-row}
+use Rattle.generator_matrix.specs.Step.{run, blocks}
 
-div-more : (r m : ℕ) → 1 ≤ r → (m + 1) % r ≡ 0 → (m + 1) / r ≡ m / r + 1
-div-more r m h e = go ((m + 1) / r) (rw e at (div-add-mod' (m + 1) r))
-  where
-    go : (a : ℕ) → a * r + 0 ≡ m + 1 → a ≡ m / r + 1
-    go zero p = absurd (omega arith)
-    go (suc a) p =
-        let d : m ≡ a * r + (r - 1) = omega arith in
-        let l : r - 1 < r = omega arith in
-        omega (arith, ap (λ n. n / r) d ∙ digits-div a l)
+-- whole groups: the power m / r × size + m % r of x is in blocks of the power size of x
+pub basis-whole : (s : Shape) → whole s ≡ true → s .second ≡ 0 → (x : ℕ) → x < q (s .field) → (m : ℕ)
+    → blocks (s .field) x (power (s .field) x (size s)) 0 (s .r) m ≡ basis s m x
+unfolding blocks raised
+basis-whole s w none x h m =
+    let f = s .field in
+    let R = ring-of f in
+    let X : Elem f = (x, h) in
+    let j = m / s .r in
+    let i = m % s .r in
+    let z : 0 + j ≡ j = omega arith in
+    sym
+    (basis-power s m x w ∙ ap (power f x) (exponent-raised s none m) ∙ sym (pow-is f X (j * size s + i))
+    ∙ ap (λ y. y .0) (pow-add R X (j * size s) i ∙ ap (λ y. R .mul y (pow R X i)) (ap (pow R X) (mul-comm j (size s)) ∙ sym (pow-mul R X (size s) j)))
+    ∙ ap₂ (times f) (pow-is f (pow R X (size s)) j ∙ ap₂ (power f) (pow-is f X (size s)) (sym z)) (pow-is f X i))
 
-div-same : (r m : ℕ) → 1 ≤ r → (m + 1) % r ≢ 0 → (m + 1) / r ≡ m / r
-div-same r m h n = go ((m + 1) % r) n (mod-lt (m + 1) h) (div-add-mod' (m + 1) r)
-  where
-    go : (b : ℕ) → b ≢ 0 → b < r → (m + 1) / r * r + b ≡ m + 1 → (m + 1) / r ≡ m / r
-    go zero z l p = absurd (z refl)
-    go (suc b) z l p =
-        let d : m ≡ (m + 1) / r * r + b = omega arith in
-        let k : b < r = omega arith in
-        omega (arith, ap (λ n. n / r) d ∙ digits-div ((m + 1) / r) k)
+-- a short last group, of which t places are missing
+pub lead-worked : (s : Shape) → Plain s → (t : ℕ) → t ≡ missing s → t ≢ 0 → (s .r ≤ s .k + t) × (s .k + t - s .r ≡ lead s) × (lead s ≤ s .k)
+lead-worked s L t e some =
+    let short = whole-no s (λ o. some (e ∙ o)) in
+    omega (arith, lead-is s L short, lead-most s L short)
 
-power-sum : (f x : ℕ) → x < q f → (a b : ℕ) → power f x (a + b) ≡ times f (power f x a) (power f x b)
-power-sum f x h a b =
-    sym (pow-is f (x, h) (a + b)) ∙ ap (λ y. y .0) (pow-add (ring-of f) (x, h) a b) ∙ ap₂ (times f) (pow-is f (x, h) a) (pow-is f (x, h) b)
+module _ (s : Shape) (w : whole s ≡ false) (x m : ℕ) where
+  short-is : basis s m x ≡ short-basis s m x
+  unfolding basis
+  short-is = ap (λ b. cond b (whole-basis s m x) (short-basis s m x)) w
 
-module _ (s : Shape) (L : Plain s) where
-  exponents : (m : ℕ) → exponent s m ≡ m + s .tolerance * (m / s .r)
-  exponents = exponent-is s (L .family .placed) (L .second-none)
+  pub basis-first : m < lead s → blocks (s .field) x (good s x) 1 (s .r) m ≡ basis s m x
+  unfolding blocks short-basis
+  basis-first h = sym (short-is ∙ rw (lt-ltb m (lead s) h) refl)
 
-  exponent-zero : exponent s 0 ≡ 0
-  exponent-zero = omega (arith, exponents 0, ap (λ n. s .tolerance * n) (zero-div (s .r)))
+  pub basis-rest : lead s ≤ m → run (s .field) x (vanishing s x) (lead s) m ≡ basis s m x
+  unfolding run short-basis
+  basis-rest h = sym (short-is ∙ rw (le-ltb m (lead s) h) refl)
 
-  exponent-same : (m : ℕ) → (m + 1) % s .r ≢ 0 → exponent s (m + 1) ≡ suc (exponent s m)
-  exponent-same m n = omega (arith, exponents m, exponents (m + 1), ap (λ n. s .tolerance * n) (div-same (s .r) m (L .family .placed .r-least) n))
+-- what fill_row writes, where slot p is of group j and has the point x, whose power size is y, and t places are missing
+module _ (s : Shape) (L : Plain s) (p x j y t : ℕ) (h : p < s .n) (e : x ≡ point s p) (g : j ≡ group s p) (d : y ≡ power (s .field) γ (j * size s))
+    (n : t ≡ missing s) (a z : List ℕ) where
+  P : Placed s
+  P = L .family .placed
 
-  exponent-more : (m : ℕ) → (m + 1) % s .r ≡ 0 → exponent s (m + 1) ≡ s .tolerance + suc (exponent s m)
-  exponent-more m e = omega (arith, exponents m, exponents (m + 1), ap (λ n. s .tolerance * n) (div-more (s .r) m (L .family .placed .r-least) e))
+  x-below : x < q (s .field)
+  x-below = rw e (point-below s p)
 
-  pub power-zero : (x : ℕ) → 1 ≡ power (s .field) x (exponent s 0)
-  unfolding power
-  power-zero x = sym (ap (power (s .field) x) exponent-zero)
+  power-is : y ≡ power (s .field) x (size s)
+  unfolding Group-power
+  power-is =
+      d ∙ ap (λ o. power (s .field) γ (o * size s)) g
+      ∙ sym (ap (λ o. power (s .field) o (size s)) e ∙ group-power s p P (omega (arith, n-room s P)))
 
-  -- from the value of basis polynomial m at x
-  module _ (x m v w : ℕ) (e : v ≡ power (s .field) x (exponent s m)) (d : w ≡ times (s .field) x v) where
-    pub power-same : (m + 1) % s .r ≢ 0 → w ≡ power (s .field) x (exponent s (m + 1))
-    unfolding power
-    power-same n = d ∙ ap (times (s .field) x) e ∙ ap (power (s .field) x) (sym (exponent-same m n))
+  pub row-whole : t ≡ 0 → Written (blocks (s .field) x y 0 (s .r)) 0 (s .k) a z → Generator-row s p a z
+  row-whole none W =
+      record {
+        size = W .size;
+        entry = λ m l.
+            W .put m (omega arith) l ∙ ap (λ o. blocks (s .field) x o 0 (s .r) m) power-is
+            ∙ basis-whole s (whole-yes s (sym n ∙ none)) (L .second-none) x x-below m ∙ ap (basis s m) e;
+      }
 
-    pub power-more : (j y : ℕ) → x < q (s .field) → j ≡ power (s .field) x (s .tolerance) → y ≡ times (s .field) j w → (m + 1) % s .r ≡ 0
-        → y ≡ power (s .field) x (exponent s (m + 1))
-    unfolding power
-    power-more j y h t c z =
-        c ∙ ap₂ (times (s .field)) t (d ∙ ap (times (s .field) x) e)
-        ∙ sym (ap (power (s .field) x) (exponent-more m z) ∙ power-sum (s .field) x h (s .tolerance) (suc (exponent s m)))
+  pub row-short : t ≢ 0 → (c v l : ℕ) (b : List ℕ) → c ≡ minus (s .field) y (constant s) → v ≡ vanishing s x
+      → l ≡ lead s
+      → Written (blocks (s .field) x c 1 (s .r)) 0 l a b → Written (run (s .field) x v l) l (s .k) b z → Generator-row s p a z
+  unfolding good
+  row-short some c v l b u w o A W =
+      record { size = W .size ∙ A .size; entry = λ m f. go m f (decLt m l) ∙ ap (basis s m) e }
+    where
+      broken : whole s ≡ false
+      broken = whole-no s (λ o. some (n ∙ o))
+
+      good-is : c ≡ good s x
+      good-is = u ∙ ap (λ o. minus (s .field) o (constant s)) power-is
+
+      go : (m : ℕ) → m < s .k → Dec (m < l) → at z m ≡ basis s m x
+      go m f (yes b) =
+          W .before m b ∙ A .put m (omega arith) b ∙ ap (λ o. blocks (s .field) x o 1 (s .r) m) good-is ∙ basis-first s broken x m (omega arith)
+      go m f (no b) = W .put m (omega arith) f ∙ ap₂ (λ o r. run (s .field) x o r m) w o ∙ basis-rest s broken x m (omega arith)
 
 -- from symbol m on
 value-is : (s : Shape) (x m : ℕ) (ys row : List ℕ) → length ys ≤ length row

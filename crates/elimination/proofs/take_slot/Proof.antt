@@ -44,8 +44,8 @@ insert-requires c κs =
     let s = c .before .before .before .before .before .before .before .before .before .before .before .before in
     let a = s .args in
     let d = c .before .before .before .before .fill-row in (
-      filled-echelon (a .shape) (a .p) (s .pre .0 .whole-groups) (a .work .now) (d .last .1 .1 .0) (s .pre .3) (d .ensures),
-      filled-below (a .shape) (a .p) (s .pre .0 .whole-groups) (a .work .now) (d .last .1 .1 .0) (s .pre .3) (d .ensures),
+      filled-echelon (a .shape) (a .p) (s .pre .0 .family) (a .work .now) (d .last .1 .1 .0) (s .pre .3) (d .ensures),
+      filled-below (a .shape) (a .p) (s .pre .0 .family) (a .work .now) (d .last .1 .1 .0) (s .pre .3) (d .ensures),
       kept-symbol (a .shape) (a .word .now) (a .marks .now) (s .pre .2 .kept) (a .p) (s .pre .1) (c .before .before .before .before .before .before .before .if1 .left),
       s .pre .4,
       s .pre .5,
@@ -61,7 +61,7 @@ returns-2 c =
     let a = s .args in
     let d = c .before .before .before .before .before .before .before .fill-row in
     let t = c .before .before .insert in
-    taken (a .shape) (a .p) (s .pre .0 .whole-groups) (a .work .now) (d .last .1 .1 .0) (s .pre .3) (d .ensures) (a .word .now) (a .marks .now) (t .last .1 .1 .1 .0) (t .result)
+    taken (a .shape) (a .p) (s .pre .0 .family) (a .work .now) (d .last .1 .1 .0) (s .pre .3) (d .ensures) (a .word .now) (a .marks .now) (t .last .1 .1 .1 .0) (t .result)
     (c .before .before .before .before .before .before .before .before .before .before .if1 .left) (t .ensures)
 
 pub take-slot-spec : {M : Type 1} → statement M
