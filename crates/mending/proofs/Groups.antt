@@ -10,11 +10,11 @@ use Rattle.algebra.specs.Sequence.{at, count}
 use Rattle.algebra.proofs.Counting.{count-yes, count-no}
 use Rattle.algebra.proofs.Splicing.{splice}
 use Rattle.code.specs.declared.Shape.{Shape}
-use Rattle.code.specs.Shape.{size, groups, first, step, slot-at, mates}
+use Rattle.code.specs.Shape.{groups, first, step, members, slot-at, mates}
 use Rattle.code.specs.Repair.{repaired, symbols-of}
 use Rattle.code.specs.Pass.{mendable, mends, mend}
 use Rattle.code.specs.Laws.{Mending}
-use Rattle.code.proofs.Places.{slot-inside}
+use Rattle.code.proofs.Mates.{member-slot}
 use Rattle.code.proofs.Passing.{passed-at, mark-at}
 use Rattle.code.proofs.Lone.{mends-one, mend-lone}
 use Rattle.layout.specs.Step.{span}
@@ -24,37 +24,38 @@ use Rattle.mending.proofs.Members.{symbols-part, lone-part, mends-part}
 use Rattle.mending.proofs.Spliced.{Upto, span-left, upto-more}
 
 -- what the pass mends is what repair answers
-repaired-at : (s : Shape) → Mending s → (ws ms : List ℕ) (p : ℕ) → p < s .n
+repaired-at : (s : Shape) → Mending s → (ws ms : List ℕ) → length ws ≡ s .n → (p : ℕ) → p < s .n
     → cond (mends s ms p) (repaired s p (symbols-of ws (mates s p))) (at ws p) ≡ passed-at s ws ms p
-repaired-at s M ws ms p h = go (mends s ms p) refl
+repaired-at s M ws ms l p h = go (mends s ms p) refl
   where
     go : (b : Bool) → mends s ms p ≡ b → cond b (repaired s p (symbols-of ws (mates s p))) (at ws p) ≡ cond b (mend s ws ms p) (at ws p)
-    go true e = let t = mends-one s (M .one) ms p e in sym (mend-lone s M p h ms (t .0) (t .1) ws)
+    go true e = let t = mends-one s (M .one) ms p e in sym (mend-lone s M p h ms (t .0) (t .1) ws l)
     go false e = refl
 
 -- group j's span of the word and of the marks, as they were before the pass
-module _ (s : Shape) (M : Mending s) (j : ℕ) (b : j < groups s) (ws ms zp np : List ℕ) (word-part : Of-span s j ws zp) (marks-part : Of-span s j ms np) where
-  word-entry : (i : ℕ) → i < size s → instead s np (λ i. repaired s (slot-at s j i) (part-mates s i zp)) zp i ≡ passed-at s ws ms (slot-at s j i)
-  word-entry i l =
+module _ (s : Shape) (M : Mending s) (j : ℕ) (b : j < groups s) (ws ms zp np : List ℕ) (l : length ws ≡ s .n) (o : length ms ≡ s .n)
+    (word-part : Of-span s j ws zp) (marks-part : Of-span s j ms np) where
+  word-entry : (i : ℕ) → i < members s j → instead s j np (λ i. repaired s (slot-at s j i) (part-mates s j i zp)) zp i ≡ passed-at s ws ms (slot-at s j i)
+  word-entry i h =
       let p : ℕ = slot-at s j i in
-      ap₂ (λ t y. cond t y (at zp (i * step s))) (mends-part s M j ms np marks-part b i l) (ap (repaired s p) (symbols-part s M j i b l ws zp word-part))
-      ∙ ap (λ y. cond (mends s ms p) (repaired s p (symbols-of ws (mates s p))) y) (word-part i l)
-      ∙ repaired-at s M ws ms p (slot-inside s (M .placed) (M .whole-groups) j i b l)
+      ap₂ (λ t y. cond t y (at zp (i * step s))) (mends-part s M j ms np o marks-part b i h) (ap (repaired s p) (symbols-part s (M .placed) j i b h ws zp word-part))
+      ∙ ap (λ y. cond (mends s ms p) (repaired s p (symbols-of ws (mates s p))) y) (word-part i h)
+      ∙ repaired-at s M ws ms l p (member-slot s (M .placed) j i h)
 
-  marks-entry : (i : ℕ) → i < size s → instead s np (λ i. 0) np i ≡ mark-at s ms (slot-at s j i)
-  marks-entry i l = ap₂ (λ t y. cond t 0 y) (mends-part s M j ms np marks-part b i l) (marks-part i l)
+  marks-entry : (i : ℕ) → i < members s j → instead s j np (λ i. 0) np i ≡ mark-at s ms (slot-at s j i)
+  marks-entry i h = ap₂ (λ t y. cond t 0 y) (mends-part s M j ms np o marks-part b i h) (marks-part i h)
 
-  one-more : (x : ℕ) → x ≡ cond (lone s np) 1 0 → count (mendable s ms) j + x ≡ count (mendable s ms) (j + 1)
+  one-more : (x : ℕ) → x ≡ cond (lone s j np) 1 0 → count (mendable s ms) j + x ≡ count (mendable s ms) (j + 1)
   one-more x n = go (mendable s ms j) refl
     where
       is : (t : Bool) → mendable s ms j ≡ t → x ≡ cond t 1 0
-      is t y = n ∙ ap (λ b. cond b 1 0) (lone-part s M j ms np marks-part ∙ y)
+      is t y = n ∙ ap (λ b. cond b 1 0) (lone-part s M j ms np o marks-part ∙ y)
 
       go : (t : Bool) → mendable s ms j ≡ t → count (mendable s ms) j + x ≡ count (mendable s ms) (j + 1)
       go true y = omega (arith, is true y, count-yes (mendable s ms) j y)
       go false y = omega (arith, is false y, count-no (mendable s ms) j y)
 
-module _ (s : Shape) (M : Mending s) (j m k : ℕ) (b : j < groups s) (e : first s j ≡ m) (d : span s ≡ k) (ws ms zs ns : List ℕ) (l : length ws ≡ s .n) (o : length ms ≡ s .n)
+module _ (s : Shape) (M : Mending s) (j m k : ℕ) (b : j < groups s) (e : first s j ≡ m) (d : span s j ≡ k) (ws ms zs ns : List ℕ) (l : length ws ≡ s .n) (o : length ms ≡ s .n)
     (F : Upto s (passed-at s ws ms) j ws zs) (H : Upto s (mark-at s ms) j ms ns) (x : ℕ) (zs′ ns′ : List ℕ)
     (G : Group-mended s j (take k (drop m zs)) (take k (drop m ns)) x zs′ ns′) where
   zp : List ℕ
@@ -65,23 +66,23 @@ module _ (s : Shape) (M : Mending s) (j m k : ℕ) (b : j < groups s) (e : first
 
   word-part : Of-span s j ws zp
   unfolding zp
-  word-part = span-left s M j m k b e d ws zs l (passed-at s ws ms) F
+  word-part = span-left s (M .placed) j m k b e d ws zs l (passed-at s ws ms) F
 
   marks-part : Of-span s j ms np
   unfolding np
-  marks-part = span-left s M j m k b e d ms ns o (mark-at s ms) H
+  marks-part = span-left s (M .placed) j m k b e d ms ns o (mark-at s ms) H
 
   pub word-step : Upto s (passed-at s ws ms) (j + 1) ws (splice m k zs zs′)
   unfolding zp np
   word-step =
-      upto-more s M j m k b e d ws zs l (passed-at s ws ms) F (instead s np (λ i. repaired s (slot-at s j i) (part-mates s i zp)) zp) zs′ (G .word)
-      (word-entry s M j b ws ms zp np word-part marks-part)
+      upto-more s (M .placed) j m k b e d ws zs l (passed-at s ws ms) F (instead s j np (λ i. repaired s (slot-at s j i) (part-mates s j i zp)) zp) zs′ (G .word)
+      (word-entry s M j b ws ms zp np l o word-part marks-part)
 
   pub marks-step : Upto s (mark-at s ms) (j + 1) ms (splice m k ns ns′)
   unfolding zp np
   marks-step =
-      upto-more s M j m k b e d ms ns o (mark-at s ms) H (instead s np (λ i. 0) np) ns′ (G .marks) (marks-entry s M j b ws ms zp np word-part marks-part)
+      upto-more s (M .placed) j m k b e d ms ns o (mark-at s ms) H (instead s j np (λ i. 0) np) ns′ (G .marks) (marks-entry s M j b ws ms zp np l o word-part marks-part)
 
   pub number-step : count (mendable s ms) j + x ≡ count (mendable s ms) (j + 1)
   unfolding np
-  number-step = one-more s M j b ws ms zp np word-part marks-part x (G .number)
+  number-step = one-more s M j b ws ms zp np l o word-part marks-part x (G .number)

@@ -14,12 +14,14 @@ use Rattle.algebra.specs.Sequence.{at, tabulate}
 use Rattle.algebra.proofs.Tabulate.{tabulate-is}
 use Rattle.algebra.proofs.Splicing.{splice, length-splice, spliced-in, spliced-out}
 use Rattle.code.specs.declared.Shape.{Shape}
-use Rattle.code.specs.Shape.{size, groups, group, member, first, step, slot-at}
-use Rattle.code.specs.Laws.{Mending}
-use Rattle.code.proofs.Places.{n-room, slot-inside, group-below, member-below, slot-group-member, group-slot-at}
+use Rattle.code.specs.Shape.{groups, group, member, first, step, members, slot-at}
+use Rattle.code.specs.Laws.{Placed}
+use Rattle.code.proofs.Places.{n-room, group-below, slot-group-member}
+use Rattle.code.proofs.Mates.{member-slot, member-own}
 use Rattle.layout.specs.Step.{span}
 use Rattle.layout.proofs.Spans.{Of-span, span-within, slot-in-span, member-inside, length-lent, lent-at, lent-span}
 use Rattle.mending.specs.Step.{Members-set}
+use Rattle.mending.proofs.Members.{member-group}
 
 pub record Upto (s : Shape) (f : ℕ → ℕ) (j : ℕ) (a z : List ℕ) : Type 0 where
   pub same : length z ≡ length a
@@ -30,32 +32,32 @@ module _ (s : Shape) (f : ℕ → ℕ) where
   pub upto-none : (a : List ℕ) → Upto s f 0 a a
   upto-none a = record { same = refl; done = λ p h l. absurd (omega arith); left = λ p h l. refl }
 
-  pub upto-all : Mending s → (j : ℕ) (a z : List ℕ) → j ≡ groups s → length a ≡ s .n → Upto s f j a z → z ≡ tabulate f (s .n)
-  upto-all M j a z e l U =
+  pub upto-all : Placed s → (j : ℕ) (a z : List ℕ) → j ≡ groups s → length a ≡ s .n → Upto s f j a z → z ≡ tabulate f (s .n)
+  upto-all P j a z e l U =
       tabulate-is f 0 (s .n) z (U .same ∙ l)
-      (λ p h. U .done p h (omega (arith, group-below s (M .placed) p (omega (arith, n-room s (M .placed))))))
+      (λ p h. U .done p h (omega (arith, group-below s P p (omega (arith, n-room s P)))))
 
 -- the span of group j is the k entries from m on
-module _ (s : Shape) (M : Mending s) (j m k : ℕ) (b : j < groups s) (e : first s j ≡ m) (d : span s ≡ k) (a z : List ℕ) (l : length a ≡ s .n) (f : ℕ → ℕ) (U : Upto s f j a z) where
+module _ (s : Shape) (P : Placed s) (j m k : ℕ) (b : j < groups s) (e : first s j ≡ m) (d : span s j ≡ k) (a z : List ℕ) (l : length a ≡ s .n) (f : ℕ → ℕ) (U : Upto s f j a z) where
   within : m + k ≤ length z
-  within = omega (arith, U .same, span-within s M j m k b e d)
+  within = omega (arith, U .same, span-within s P j m k b e d)
 
   -- at its members it is as it came
   pub span-left : Of-span s j a (take k (drop m z))
   span-left i h =
-      lent-span s M j m k b e d z i h
-      ∙ U .left (slot-at s j i) (slot-inside s (M .placed) (M .whole-groups) j i b h) (omega (arith, group-slot-at s (M .placed) j i b h))
+      lent-span s P j m k b e d z i h
+      ∙ U .left (slot-at s j i) (member-slot s P j i h) (omega (arith, member-group s P j i b h))
 
-  module _ (g : ℕ → ℕ) (part′ : List ℕ) (G : Members-set s g (take k (drop m z)) part′) where
+  module _ (g : ℕ → ℕ) (part′ : List ℕ) (G : Members-set s j g (take k (drop m z)) part′) where
     long : length part′ ≡ k
-    long = G .same ∙ length-lent s M j m k b e d z (U .same ∙ l) ∙ d
+    long = G .same ∙ length-lent s P j m k b e d z (U .same ∙ l) ∙ d
 
     -- slots of other groups
     elsewhere : (p : ℕ) → group s p ≢ j → at (splice m k z part′) p ≡ at z p
     elsewhere p n = go (decLt p m) (decLt p (m + k))
       where
-        apart : (i : ℕ) → i < size s → p - m ≡ i * step s → m ≤ p → ⊥
-        apart i h t o = n (ap (group s) (omega (arith, slot-in-span s M j m k b e d i)) ∙ group-slot-at s (M .placed) j i b h)
+        apart : (i : ℕ) → i < members s j → p - m ≡ i * step s → m ≤ p → ⊥
+        apart i h t o = n (ap (group s) (omega (arith, slot-in-span s P j m k b e d i)) ∙ member-group s P j i b h)
 
         go : Dec (p < m) → Dec (p < m + k) → at (splice m k z part′) p ≡ at z p
         go (yes h) q = spliced-out m k z part′ within long p (λ i u v. omega arith)
@@ -63,9 +65,9 @@ module _ (s : Shape) (M : Mending s) (j m k : ℕ) (b : j < groups s) (e : first
         go (no h) (yes q) =
             let t : p ≡ m + (p - m) = omega arith in
             ap (at (splice m k z part′)) t ∙ spliced-in m k z part′ within long (p - m) (omega arith)
-            ∙ G .other (p - m) (λ i u v. apart i u v (omega arith)) ∙ lent-at s M j m k b e d z (p - m) (omega arith) ∙ ap (at z) (sym t)
+            ∙ G .other (p - m) (λ i u v. apart i u v (omega arith)) ∙ lent-at s P j m k b e d z (p - m) (omega arith) ∙ ap (at z) (sym t)
 
-    pub upto-more : ((i : ℕ) → i < size s → g i ≡ f (slot-at s j i)) → Upto s f (j + 1) a (splice m k z part′)
+    pub upto-more : ((i : ℕ) → i < members s j → g i ≡ f (slot-at s j i)) → Upto s f (j + 1) a (splice m k z part′)
     upto-more same =
         record {
           same = length-splice m k z part′ within long ∙ U .same;
@@ -76,9 +78,9 @@ module _ (s : Shape) (M : Mending s) (j m k : ℕ) (b : j < groups s) (e : first
         own : (p : ℕ) → p < s .n → group s p ≡ j → at (splice m k z part′) p ≡ f p
         own p h t =
             let i : ℕ = member s p in
-            let o : i < size s = member-below s (M .placed) p (omega (arith, n-room s (M .placed))) in
-            let w : slot-at s j i ≡ p = ap (λ j. slot-at s j i) (sym t) ∙ slot-group-member s (M .placed) p in
-            ap (at (splice m k z part′)) (sym w ∙ slot-in-span s M j m k b e d i) ∙ spliced-in m k z part′ within long (i * step s) (member-inside s M j m k b e d i o)
+            let o : i < members s j = omega (arith, member-own s P p h, ap (members s) t) in
+            let w : slot-at s j i ≡ p = ap (λ j. slot-at s j i) (sym t) ∙ slot-group-member s P p in
+            ap (at (splice m k z part′)) (sym w ∙ slot-in-span s P j m k b e d i) ∙ spliced-in m k z part′ within long (i * step s) (member-inside s P j m k b e d i o)
             ∙ G .own i o ∙ same i o ∙ ap f w
 
         go : (p : ℕ) → p < s .n → group s p < j + 1 → Dec (group s p ≡ j) → at (splice m k z part′) p ≡ f p

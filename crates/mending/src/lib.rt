@@ -5,7 +5,7 @@ ghost use Prim.Native.Nat.{ℕ, _*_, _<_};
 ghost use lib.ListN.{length};
 ghost use Rattle.algebra.specs.Sequence.{at, count};
 ghost use Rattle.field.specs.Table.{Powers, Logs};
-ghost use Rattle.code.specs.Shape.{size, groups};
+ghost use Rattle.code.specs.Shape.{groups, members};
 ghost use Rattle.code.specs.Decoding.{lost};
 ghost use Rattle.code.specs.Pass.{passed, marks-after, mended};
 ghost use Rattle.code.specs.Laws.{Mending};
@@ -30,15 +30,15 @@ fn lost_member(marks: &[u8], step: usize, number: usize) -> usize
 }
 
 // The symbols of a group's span at the mates of a member, with zeros after them.
-pub fn mates_of(shape: Shape, part: &[u8], member: u32) -> [u8; 16]
-    requires { ⌜ Mending shape × (member < size shape) × (length (now part) ≡ span shape) ⌝ }
-    ensures { λ x. ⌜ x ≡ sixteen (part-mates shape member (now (part .entry))) ⌝ }
+pub fn mates_of(shape: Shape, group: u32, part: &[u8], member: u32) -> [u8; 16]
+    requires { ⌜ Mending shape × (group < groups shape) × (member < members shape group) × (length (now part) ≡ span shape group) ⌝ }
+    ensures { λ x. ⌜ x ≡ sixteen (part-mates shape group member (now (part .entry))) ⌝ }
 {
-    let r = shape.r;
+    let number = layout::members_of(shape, group) - 1;
     let step = layout::step_of(shape);
     let mut symbols = [0u8; 16];
     let mut i: u32 = 0;
-    while i < r {
+    while i < number {
         let mate = layout::mate_member(member, i);
         symbols[i as usize] = part[(mate * step) as usize];
         i += 1;
@@ -55,28 +55,21 @@ fn mend_group(
     powers: &[u8; 255],
     logs: &[u8; 256],
 ) -> u32
-    requires { ⌜ Powers 1 (now powers) × Logs (now logs) × Mending shape × (group < groups shape) × (length (now part) ≡ span shape) × (length (now marks) ≡ span shape) ⌝ }
+    requires { ⌜ Powers 1 (now powers) × Logs (now logs) × Mending shape × (group < groups shape) × (length (now part) ≡ span shape group) × (length (now marks) ≡ span shape group) ⌝ }
     ensures { λ x. ⌜ Group-mended shape group (now (part .entry)) (now (marks .entry)) x (now (part .exit)) (now (marks .exit)) ⌝ }
 {
-    let size = layout::size_of(shape) as usize;
+    let members = layout::members_of(shape, group) as usize;
     let step = layout::step_of(shape) as usize;
-    if questions::losses_from(marks, 0, step, size) != 1 {
+    if questions::losses_from(marks, 0, step, members) != 1 {
         return 0;
     }
-    let i = lost_member(marks, step, size);
+    let i = lost_member(marks, step, members);
     let member = i as u32;
     let slot = layout::slot_at(shape, group, member);
     let weights = weights::weights_of(shape, slot);
-    let mates = mates_of(shape, part, member);
+    let mates = mates_of(shape, group, part, member);
     let place = i * step;
-    part[place] = arithmetic::dot(
-        shape.field,
-        &weights,
-        &mates,
-        shape.r as usize,
-        powers,
-        logs,
-    );
+    part[place] = arithmetic::dot(shape.field, &weights, &mates, members - 1, powers, logs);
     marks[place] = 0;
     1
 }
@@ -92,13 +85,12 @@ pub fn mend_groups(
     requires { ⌜ Powers 1 (now powers) × Logs (now logs) × Mending shape × (length (now word) ≡ shape .n) × (length (now marks) ≡ shape .n) ⌝ }
     ensures { λ x. ⌜ (now (word .exit) ≡ passed shape (now (word .entry)) (now (marks .entry))) × (now (marks .exit) ≡ marks-after shape (now (marks .entry))) × (x ≡ mended shape (now (marks .entry))) ⌝ }
 {
-    let span = layout::span_of(shape) as usize;
     let all = layout::groups_of(shape);
     let mut number: u32 = 0;
     let mut j: u32 = 0;
     while j < all {
         let start = layout::first_of(shape, j) as usize;
-        let end = start + span;
+        let end = start + layout::span_of(shape, j) as usize;
         let one = mend_group(
             shape,
             j,

@@ -21,14 +21,16 @@ use Rattle.code.specs.Erasure.{group-losses}
 use Rattle.code.specs.Repair.{symbols-of}
 use Rattle.code.specs.Pass.{mendable, mend, passed, marks-after, mended}
 use Rattle.code.specs.Promise.{Pass-mends}
+use Rattle.code.proofs.Places.{n-room}
 use Rattle.code.proofs.Questions.{ask-yes, or-ask-on}
 use Rattle.code.proofs.Answers.{answers-in}
 use Rattle.code.proofs.Codewords.{length-encoded, encoded-below}
 use Rattle.code.proofs.Passing.{at-passed, at-marks, pass-mends}
-use Rattle.code.proofs.Lone.{mendable-one, mends-one, kept-mates}
+use Rattle.code.proofs.Lone.{mendable-one, mends-one, kept-lone, same-others}
 use Rattle.pass.specs.Pass.{reads, reads-below, pass-refusal}
 use Rattle.pass.specs.Promise.{Pass-counts, Pass-restores, Pass-keeps, Pass-accepts, Promises}
 use Rattle.pass.proofs.Reading.{readable}
+use Rattle.pass.proofs.Refusals.{pass-passed}
 
 pub pass-counts : Pass-counts
 unfolding Pass-counts Answers mended
@@ -39,12 +41,14 @@ pass-counts n s ws ms x ws′ ms′ M says z =
 pub pass-restores : Pass-restores
 unfolding Pass-restores Pass-mends Answers
 pass-restores n s xs ws ms x ws′ ms′ p F M m h says z t y =
-    let r = eq-eqb (pass-refusal n s ws ms) 0 (sym (says .answer .0) ∙ z) in
+    let passes = sym (says .answer .0) ∙ z in
+    let r = eq-eqb (pass-refusal n s ws ms) 0 passes in
     let w = says .word ∙ ap (λ b. cond b (passed s ws ms) ws) r in
     let v = says .marks ∙ ap (λ b. cond b (marks-after s ms) ms) r in
     let o = mends-one s (M .one) ms p t in
-    let k = kept-mates s M p h ms (o .0) (o .1) in (
-      ap (λ l. at l p) w ∙ pass-mends s xs ws ms p F m h t (ap (symbols-of ws) k ∙ y ∙ sym (ap (symbols-of (encoded s xs)) k)),
+    let k = kept-lone s (M .placed) ms p (omega (arith, n-room s (M .placed))) (o .0) (o .1) in
+    let same = same-others s M p h ws (encoded s xs) (pass-passed n s ws ms passes .word-length) (length-encoded s xs) y in (
+      ap (λ l. at l p) w ∙ pass-mends s xs ws ms p F m h t (ap (symbols-of ws) k ∙ same ∙ sym (ap (symbols-of (encoded s xs)) k)),
       ap (λ l. at l p) v ∙ at-marks s ws ms p h ∙ ap (λ b. cond b 0 (at ms p)) t,
     )
 

@@ -13,11 +13,13 @@ use Rattle.algebra.proofs.Booleans.{so, yes-true, no-false}
 use Rattle.algebra.proofs.Every.{every-at, every-intro, every-same}
 use Rattle.field.specs.Field.{q}
 use Rattle.code.specs.declared.Shape.{Shape}
-use Rattle.code.specs.Shape.{size, groups, group, member, slot-at}
+use Rattle.code.specs.Shape.{groups, group, member, members, slot-at}
 use Rattle.code.specs.Decoding.{lost}
 use Rattle.code.specs.Pass.{mendable}
 use Rattle.code.specs.Laws.{Mending}
-use Rattle.code.proofs.Places.{n-room, group-below, member-below, slot-group-member, group-slot-at, slot-inside}
+use Rattle.code.proofs.Places.{n-room, group-below, slot-group-member}
+use Rattle.code.proofs.Mates.{member-slot, member-own}
+use Rattle.mending.proofs.Members.{member-group}
 use Rattle.pass.specs.Pass.{reads, reads-below}
 use Rattle.pass.specs.Step.{group-reads-below}
 
@@ -25,17 +27,17 @@ abbrev pub readable : Shape → (word marks : List ℕ) → (slot : ℕ) → Boo
 readable s ws ms p = not (reads s ms p) || ltb (at ws p) (q (s .field))
 
 -- what is read of a group's member, by whether the group is mended
-member-reads : (s : Shape) → Mending s → (ms : List ℕ) (j i : ℕ) → j < groups s → i < size s → (b : Bool) → mendable s ms j ≡ b
+member-reads : (s : Shape) → Mending s → (ms : List ℕ) (j i : ℕ) → j < groups s → i < members s j → (b : Bool) → mendable s ms j ≡ b
     → reads s ms (slot-at s j i) ≡ not (lost ms (slot-at s j i)) && b
 unfolding reads
-member-reads s M ms j i g h b e = ap (λ b. not (lost ms (slot-at s j i)) && b) (ap (mendable s ms) (group-slot-at s (M .placed) j i g h) ∙ e)
+member-reads s M ms j i g h b e = ap (λ b. not (lost ms (slot-at s j i)) && b) (ap (mendable s ms) (member-group s (M .placed) j i g h) ∙ e)
 
 module _ (s : Shape) (M : Mending s) (ws ms : List ℕ) (j : ℕ) (g : j < groups s) where
   pub none-read : mendable s ms j ≡ false → group-reads-below s j ws ms ≡ true
   unfolding group-reads-below
   none-read e =
-      yes-true (every (λ i. readable s ws ms (slot-at s j i)) (size s))
-      (every-intro (λ i. readable s ws ms (slot-at s j i)) (size s)
+      yes-true (every (λ i. readable s ws ms (slot-at s j i)) (members s j))
+      (every-intro (λ i. readable s ws ms (slot-at s j i)) (members s j)
       (λ i h. subst (λ (b : Bool). T (not b || ltb (at ws (slot-at s j i)) (q (s .field)))) (sym (member-reads s M ms j i g h false e ∙ none (lost ms (slot-at s j i)))) tt))
     where
       none : (b : Bool) → not b && false ≡ false
@@ -44,10 +46,10 @@ module _ (s : Shape) (M : Mending s) (ws ms : List ℕ) (j : ℕ) (g : j < group
 
   -- of a group that is mended the kept symbols are read
   pub kept-read : mendable s ms j ≡ true
-      → group-reads-below s j ws ms ≡ every (λ i. lost ms (slot-at s j i) || ltb (at ws (slot-at s j i)) (q (s .field))) (size s)
+      → group-reads-below s j ws ms ≡ every (λ i. lost ms (slot-at s j i) || ltb (at ws (slot-at s j i)) (q (s .field))) (members s j)
   unfolding group-reads-below
   kept-read e =
-      every-same (λ i. readable s ws ms (slot-at s j i)) (λ i. lost ms (slot-at s j i) || ltb (at ws (slot-at s j i)) (q (s .field))) (size s)
+      every-same (λ i. readable s ws ms (slot-at s j i)) (λ i. lost ms (slot-at s j i) || ltb (at ws (slot-at s j i)) (q (s .field))) (members s j)
       (λ i h. ap (λ b. b || ltb (at ws (slot-at s j i)) (q (s .field))) (ap not (member-reads s M ms j i g h true e) ∙ kept (lost ms (slot-at s j i))))
     where
       kept : (b : Bool) → not (not b && true) ≡ b
@@ -59,8 +61,8 @@ module _ (s : Shape) (M : Mending s) (ws ms : List ℕ) (j : ℕ) (g : j < group
   reads-not e =
       no-false (every (readable s ws ms) (s .n))
       (λ t. subst (λ (b : Bool). T b) e
-      (every-intro (λ i. readable s ws ms (slot-at s j i)) (size s)
-      (λ i h. every-at (readable s ws ms) (s .n) t (slot-at s j i) (slot-inside s (M .placed) (M .whole-groups) j i g h))))
+      (every-intro (λ i. readable s ws ms (slot-at s j i)) (members s j)
+      (λ i h. every-at (readable s ws ms) (s .n) t (slot-at s j i) (member-slot s (M .placed) j i h))))
 
 -- every slot is one of its group's
 pub reads-all : (s : Shape) → Mending s → (ws ms : List ℕ) → ((j : ℕ) → j < groups s → group-reads-below s j ws ms ≡ true) → reads-below s ws ms ≡ true
@@ -72,5 +74,5 @@ reads-all s M ws ms all =
     let P = M .placed in
     let l : p < _ = omega (arith, n-room s P) in
     let j : ℕ = group s p in
-    let t = every-at (λ i. readable s ws ms (slot-at s j i)) (size s) (so (all j (group-below s P p l))) (member s p) (member-below s P p l) in
+    let t = every-at (λ i. readable s ws ms (slot-at s j i)) (members s j) (so (all j (group-below s P p l))) (member s p) (member-own s P p h) in
     subst (λ (o : ℕ). T (readable s ws ms o)) (slot-group-member s P p) t))

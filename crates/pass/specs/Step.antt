@@ -7,8 +7,8 @@ use lib.Dec.{ltb}
 use Rattle.algebra.specs.Sequence.{at, every}
 use Rattle.field.specs.Field.{q}
 use Rattle.code.specs.declared.Shape.{Shape}
-use Rattle.code.specs.Shape.{size, slot-at}
+use Rattle.code.specs.Shape.{members, slot-at}
 use Rattle.pass.specs.Pass.{reads}
 
 unfoldable pub group-reads-below : Shape → (group : ℕ) → (word marks : List ℕ) → Bool
-group-reads-below s j ws ms = every (λ i. not (reads s ms (slot-at s j i)) || ltb (at ws (slot-at s j i)) (q (s .field))) (size s)
+group-reads-below s j ws ms = every (λ i. not (reads s ms (slot-at s j i)) || ltb (at ws (slot-at s j i)) (q (s .field))) (members s j)

@@ -16,14 +16,14 @@ fn group_below(shape: Shape, group: u32, word: &[u8], marks: &[u8]) -> bool
     requires { ⌜ Mending shape × (group < groups shape) × (length (now word) ≡ shape .n) × (length (now marks) ≡ shape .n) ⌝ }
     ensures { λ x. ⌜ x ≡ group-reads-below shape group (now (word .entry)) (now (marks .entry)) ⌝ }
 {
-    let size = layout::size_of(shape) as usize;
+    let members = layout::members_of(shape, group) as usize;
     let step = layout::step_of(shape) as usize;
     let first = layout::first_of(shape, group) as usize;
-    if questions::losses_from(marks, first, step, size) != 1 {
+    if questions::losses_from(marks, first, step, members) != 1 {
         return true;
     }
     let q = tables::order(shape.field);
-    questions::symbols_from(word, marks, first, step, size, q)
+    questions::symbols_from(word, marks, first, step, members, q)
 }
 
 // Whether every symbol that the pass reads is below q.
@@ -56,7 +56,7 @@ fn pass_refusal(refusal: u32, shape: Shape, word: &[u8], marks: &[u8]) -> u32
     questions::ask(c, pass_below(shape, word, marks), 6)
 }
 
-// The local pass over any shape of whole groups that stand one loss.
+// The local pass over any shape whose groups stand one loss.
 pub fn local_pass_with(refusal: u32, shape: Shape, word: &mut [u8], marks: &mut [u8]) -> Answer
     requires { ⌜ (refusal ≡ 0 → Mending shape) ⌝ }
     ensures { λ x. ⌜ Pass-says refusal shape (now (word .entry)) (now (marks .entry)) x (now (word .exit)) (now (marks .exit)) ⌝ }
@@ -82,8 +82,8 @@ pub fn local_pass(code: Code, word: &mut [u8], marks: &mut [u8]) -> Answer
     ensures { λ x. ⌜ Pass-says (code-refusal code) (single code) (now (word .entry)) (now (marks .entry)) x (now (word .exit)) (now (marks .exit)) ⌝ }
 {
     local_pass_with(
-        layout::code_refusal(code),
-        layout::single(code),
+        acceptance::code_refusal(code),
+        acceptance::single(code),
         word,
         marks,
     )

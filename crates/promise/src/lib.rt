@@ -85,10 +85,11 @@ fn mates_in(shape: Shape, slot: u32, word: &[u8]) -> [u8; 16]
     requires { ⌜ Mending shape × (slot < shape .n) × (length (now word) ≡ shape .n) ⌝ }
     ensures { λ x. ⌜ x ≡ sixteen (symbols-of (now (word .entry)) (mates shape slot)) ⌝ }
 {
-    let start = layout::first_of(shape, layout::group_of(shape, slot)) as usize;
-    let end = start + layout::span_of(shape) as usize;
+    let group = layout::group_of(shape, slot);
+    let start = layout::first_of(shape, group) as usize;
+    let end = start + layout::span_of(shape, group) as usize;
     let member = layout::member_of(shape, slot);
-    mending::mates_of(shape, &word[start..end], member)
+    mending::mates_of(shape, group, &word[start..end], member)
 }
 
 // Encodes a message, lets its lost slots hold other bytes, and repairs a slot from what its mates hold.
@@ -108,8 +109,8 @@ pub fn encode_lose_repair(
     if refusal != 0 {
         return Answer { refusal, value: 0 };
     }
-    let shape = layout::single(code);
+    let shape = acceptance::single(code);
     let mates = mates_in(shape, slot, word);
-    let r = code.r as usize;
-    repair::repair(code, slot, &mates[..r])
+    let number = layout::mates_number(shape, slot) as usize;
+    repair::repair(code, slot, &mates[..number])
 }

@@ -1,5 +1,5 @@
 -- What repair and strip rebuild answer of mates' symbols. Assumes nothing: these are definitions.
---   strips-fit s l n            == n symbols are r strips of l symbols, with l from 1 to 4,096
+--   strips-fit s p l n          == n symbols are a strip of l symbols for each mate of slot p, with l from 1 to 4,096
 --   mates-refusal n s p l xs    the refusal n of the code's numbers, then 5, 7, 6 on the mates' strips xs of l symbols each; repair's l is 1
 --   Repair-says n s p xs x      == the answer x is the repaired symbol, or a refusal
 --   Rebuild-says n s p xs x a z == the output a has become the rebuilt strip, or is unchanged on a refusal
@@ -10,19 +10,20 @@ use lib.Dec.{leb, ltb, eqb}
 use lib.ListN.{length}
 use Rattle.algebra.specs.Sequence.{all-below}
 use Rattle.field.specs.Field.{q}
+use Rattle.code.specs.Shape.{mates-number}
 use Rattle.code.specs.Question.{ask, or-ask}
 use Rattle.code.specs.Answer.{Answers, Fills}
 use Rattle.code.specs.Repair.{repaired, strip}
 use Rattle.code.specs.declared.Shape.{Shape}
 use Rattle.code.specs.declared.Answer.{Answer}
 
-unfoldable pub strips-fit : Shape → (l n : ℕ) → Bool
-strips-fit s l n = (leb 1 l && leb l 4096) && eqb n (s .r * l)
+unfoldable pub strips-fit : Shape → (slot l n : ℕ) → Bool
+strips-fit s p l n = (leb 1 l && leb l 4096) && eqb n (mates-number s p * l)
 
 unfoldable pub mates-refusal : (refusal : ℕ) → Shape → (slot l : ℕ) → (strips : List ℕ) → ℕ
 mates-refusal n s p l xs =
     or-ask n
-    (ask (strips-fit s l (length xs)) 5
+    (ask (strips-fit s p l (length xs)) 5
     (ask (ltb p (s .n)) 7
     (ask (all-below (q (s .field)) xs) 6 0)))
 

@@ -12,13 +12,15 @@ fn mates_refusal(refusal: u32, shape: Shape, slot: u32, strips: &[u8], l: usize)
     requires { ⌜ (refusal ≡ 0 → Mending shape) ⌝ }
     ensures { λ x. ⌜ x ≡ mates-refusal refusal shape slot l (now (strips .entry)) ⌝ }
 {
+    let n = shape.n;
     let a = questions::ask(refusal, l >= 1, 5);
     let b = questions::ask(a, l <= 4096, 5);
     if b != 0 {
         return b;
     }
-    let c = questions::ask(b, strips.len() == shape.r as usize * l, 5);
-    let d = questions::ask(c, slot < shape.n, 7);
+    let wanted = layout::mates_number(shape, slot) as usize * l;
+    let c = questions::ask(b, strips.len() == wanted, 5);
+    let d = questions::ask(c, slot < n, 7);
     if d != 0 {
         return d;
     }
@@ -42,7 +44,7 @@ pub fn repair_with(refusal: u32, shape: Shape, slot: u32, mates: &[u8]) -> Answe
         };
     }
     let weights = weights::weights_of(shape, slot);
-    let symbol = columns::rebuild_column(shape.field, &weights, shape.r as usize, mates);
+    let symbol = columns::rebuild_column(shape.field, &weights, mates.len(), mates);
     Answer {
         refusal: 0,
         value: symbol as u32,
@@ -54,8 +56,8 @@ pub fn repair(code: Code, slot: u32, mates: &[u8]) -> Answer
     ensures { λ x. ⌜ Repair-says (code-refusal code) (single code) slot (now (mates .entry)) x ⌝ }
 {
     repair_with(
-        layout::code_refusal(code),
-        layout::single(code),
+        acceptance::code_refusal(code),
+        acceptance::single(code),
         slot,
         mates,
     )
@@ -71,7 +73,8 @@ pub fn rebuild_with(refusal: u32, shape: Shape, slot: u32, strips: &[u8], output
         return refused;
     }
     let weights = weights::weights_of(shape, slot);
-    columns::rebuild_columns(shape.field, &weights, shape.r as usize, strips, output);
+    let number = layout::mates_number(shape, slot) as usize;
+    columns::rebuild_columns(shape.field, &weights, number, strips, output);
     0
 }
 
@@ -80,8 +83,8 @@ pub fn rebuild(code: Code, slot: u32, strips: &[u8], output: &mut [u8]) -> u32
     ensures { λ x. ⌜ Rebuild-says (code-refusal code) (single code) slot (now (strips .entry)) x (now (output .entry)) (now (output .exit)) ⌝ }
 {
     rebuild_with(
-        layout::code_refusal(code),
-        layout::single(code),
+        acceptance::code_refusal(code),
+        acceptance::single(code),
         slot,
         strips,
         output,

@@ -2,12 +2,12 @@
 --   step-unwired, span-unwired
 use mathlib.Core.Path.{_≡_, ap}
 use mathlib.Core.Bool.{false, cond}
-use Prim.Native.Nat.{ℕ, _*_, _-_}
+use Prim.Native.Nat.{ℕ, _*_, _-_, _<_}
 use native.Mathlib.Omega.{arith}
 use Rattle.code.specs.declared.Shape.{Shape}
-use Rattle.code.specs.Shape.{size, groups, wired, step}
+use Rattle.code.specs.Shape.{groups, wired, step, members}
 use Rattle.code.specs.Laws.{Placed}
-use Rattle.code.proofs.Places.{size-least}
+use Rattle.code.proofs.Mates.{members-least}
 use Rattle.layout.specs.Step.{span}
 
 module _ (s : Shape) (unwired : wired s ≡ false) where
@@ -15,8 +15,8 @@ module _ (s : Shape) (unwired : wired s ≡ false) where
   unfolding step
   step-unwired = ap (λ b. cond {A = ℕ} b (groups s) 1) unwired
 
-  pub span-unwired : Placed s → span s ≡ size s
+  pub span-unwired : Placed s → (j : ℕ) → j < groups s → span s j ≡ members s j
   unfolding span
-  span-unwired P =
-      let e : (size s - 1) * step s ≡ (size s - 1) * 1 = ap (λ t. (size s - 1) * t) step-unwired in
-      omega (arith, size-least s P)
+  span-unwired P j h =
+      let e : (members s j - 1) * step s ≡ (members s j - 1) * 1 = ap (λ t. (members s j - 1) * t) step-unwired in
+      omega (arith, members-least s P j h)

@@ -14,7 +14,7 @@ use denote.Ref.{RefT, ptr, now}
 use Rattle.code.specs.declared.Code.{Code}
 use Rattle.code.specs.declared.Shape.{Shape}
 use Rattle.code.specs.Question.{ask, or-ask}
-use Rattle.code.specs.Shape.{size, wired, group, first}
+use Rattle.code.specs.Shape.{wired, group, first, members}
 use Rattle.code.specs.Family.{single}
 
 -- 18: do the slots of a group stand one after the other?
@@ -25,7 +25,7 @@ unfoldable pub first-slot : Code → (slot : ℕ) → ℕ
 first-slot c p = first (single c) (group (single c) p)
 
 unfoldable pub part : Shape → (group : ℕ) → (word : List ℕ) → List ℕ
-part s j ws = take (size s) (drop (first s j) ws)
+part s j ws = take (members s j) (drop (first s j) ws)
 
 -- ptr is where a reference points: a block of memory, and a place in it
 pub record View-says (n : ℕ) (s : Shape) (p : ℕ) (word view : RefT (List ℕ)) : Type 0 where

@@ -17,7 +17,7 @@ pub fn group_view_refusal_with(refusal: u32, shape: Shape, slot: u32, word: &[u8
     questions::ask(b, slot < shape.n, 7)
 }
 
-// The group view over any shape of whole groups.
+// The group view over any shape whose groups stand one loss.
 pub fn group_view_with(refusal: u32, shape: Shape, slot: u32, word: &[u8]) -> &[u8]
     requires { ⌜ (refusal ≡ 0 → Mending shape) ⌝ }
     ensures { λ x. ⌜ View-says refusal shape slot (word .entry) x ⌝ }
@@ -28,7 +28,7 @@ pub fn group_view_with(refusal: u32, shape: Shape, slot: u32, word: &[u8]) -> &[
     }
     let group = layout::group_of(shape, slot);
     let start = layout::first_of(shape, group) as usize;
-    let end = start + layout::size_of(shape) as usize;
+    let end = start + layout::members_of(shape, group) as usize;
     &word[start..end]
 }
 
@@ -36,14 +36,24 @@ pub fn group_view_with(refusal: u32, shape: Shape, slot: u32, word: &[u8]) -> &[
 pub fn group_view_refusal(code: Code, slot: u32, word: &[u8]) -> u32
     ensures { λ x. ⌜ x ≡ view-refusal (code-refusal code) (single code) slot (now (word .entry)) ⌝ }
 {
-    group_view_refusal_with(layout::code_refusal(code), layout::single(code), slot, word)
+    group_view_refusal_with(
+        acceptance::code_refusal(code),
+        acceptance::single(code),
+        slot,
+        word,
+    )
 }
 
-// The part of the word that is the slot's whole group, or the empty part at the word's start.
+// The part of the word that is the slot's group, or the empty part at the word's start.
 pub fn group_view(code: Code, slot: u32, word: &[u8]) -> &[u8]
     ensures { λ x. ⌜ View-says (code-refusal code) (single code) slot (word .entry) x ⌝ }
 {
-    group_view_with(layout::code_refusal(code), layout::single(code), slot, word)
+    group_view_with(
+        acceptance::code_refusal(code),
+        acceptance::single(code),
+        slot,
+        word,
+    )
 }
 
 // The first slot of a slot's group in a word.
@@ -54,7 +64,7 @@ pub fn view_first(code: Code, slot: u32, word: &[u8]) -> Answer
     if refusal != 0 {
         return Answer { refusal, value: 0 };
     }
-    let shape = layout::single(code);
+    let shape = acceptance::single(code);
     let value = layout::first_of(shape, layout::group_of(shape, slot));
     Answer { refusal: 0, value }
 }

@@ -1,4 +1,5 @@
 -- Repair weights as they are worked out. Assumes nothing.
+--   mates-most                       a slot has at most sixteen mates
 --   length-weights, turned-weight    weight i is minus the point of group 0, as many members on as mate i is from the slot
 --   take-weights, dotted-repaired    the weights, and a repaired symbol, by the array of weights
 --   weights-answered                 the array that the call answers where it refuses nothing
@@ -6,7 +7,7 @@ use mathlib.Core.Path.{_≡_, sym, ap, ap₂, _∙_}
 use mathlib.Core.Logic.{_⊎_, inl, inr, ⊎-elim}
 use mathlib.Core.Bool.{cond}
 use mathlib.Core.List.{List, []}
-use Prim.Native.Nat.{ℕ, _+_, _*_, _-_, _/_, _<_}
+use Prim.Native.Nat.{ℕ, _+_, _*_, _-_, _/_, _≤_, _<_}
 use native.Mathlib.Nat.{add-mul, mul-comm}
 use native.Mathlib.Omega.{arith}
 use borrow.Author.Tests.{eq-eqb}
@@ -24,8 +25,7 @@ use Rattle.code.specs.Laws.{Placed, Mending}
 use Rattle.code.specs.Promise.{Weights-are}
 use Rattle.code.proofs.Places.{n-room, group-below, member-below, group-slot-at, member-slot-at}
 use Rattle.code.proofs.Points.{width, width-size}
-use Rattle.code.proofs.Bounds.{r-most}
-use Rattle.code.proofs.Mates.{mates-number}
+use Rattle.code.proofs.Mates.{members-most, length-mates}
 use Rattle.code.proofs.Parity.{weights-are}
 use Rattle.layout.specs.Step.{mate-member, mate-steps}
 use Rattle.layout.proofs.Numbers.{worked-point, mate-size, mate-is, steps-round}
@@ -37,18 +37,18 @@ module _ (s : Shape) (M : Mending s) (p : ℕ) (h : p < s .n) where
   abbrev P : Placed s
   P = M .placed
 
-  mate-inside : (i : ℕ) → i < s .r → i < length (mates s p)
-  mate-inside i l = omega (arith, mates-number s M p h)
+  pub mates-most : length (mates s p) ≤ 16
+  mates-most = omega (arith, length-mates s P p h, members-most s P (group s p), P .size-most)
 
   -- the point of mate i, by the slot's group and member
-  mate-point : (i : ℕ) → i < s .r → point s (at (mates s p) i) ≡ point-at s (group s p) (mate-member (member s p) i)
+  mate-point : (i : ℕ) → i < length (mates s p) → point s (at (mates s p) i) ≡ point-at s (group s p) (mate-member (member s p) i)
   unfolding point
   mate-point i l =
       let j = group s p in
       let m = mate-member (member s p) i in
       let g = group-below s P p (omega (arith, n-room s P)) in
-      let b = mate-size s P p h i (mate-inside i l) in
-      ap (point s) (mate-is s P p h i (mate-inside i l)) ∙ ap₂ (point-at s) (group-slot-at s P j m g b) (member-slot-at s P j m g b)
+      let b = mate-size s P p h i l in
+      ap (point s) (mate-is s P p h i l) ∙ ap₂ (point-at s) (group-slot-at s P j m g b) (member-slot-at s P j m g b)
 
   -- the steps and the slot's exponent are the mate's, or q - 1 more
   round : (i w : ℕ) → w ≡ (q (s .field) - 1) / size s → let o = member s p in let m = mate-member o i in
@@ -69,21 +69,21 @@ module _ (s : Shape) (M : Mending s) (p : ℕ) (h : p < s .n) where
       whole : size s * w ≡ q (s .field) - 1
       whole = ap (λ n. size s * n) e ∙ mul-comm (size s) (width s) ∙ width-size s P
 
-  pub length-weights : length (weights s p) ≡ s .r
+  pub length-weights : length (weights s p) ≡ length (mates s p)
   unfolding weights weights-over
-  length-weights = length-map (mates s p) (λ m. weight-over s (point s p) (point s m) m (others s p)) ∙ mates-number s M p h
+  length-weights = length-map (mates s p) (λ m. weight-over s (point s p) (point s m) m (others s p))
 
   -- weight i is minus the point of mate i by the slot's
-  at-weights : (i : ℕ) → i < s .r
+  at-weights : (i : ℕ) → i < length (mates s p)
       → minus (s .field) 0 (times (s .field) (point-at s (group s p) (mate-member (member s p) i)) (inverse (s .field) (point s p))) ≡ at (weights s p) i
   unfolding Weights-are
   at-weights i l =
       let f = s .field in
       sym (ap (λ ws. at ws i) (weights-are s p P (M .one) h)
-      ∙ at-map (λ m. minus f 0 (times f (point s m) (inverse f (point s p)))) (mates s p) i (mate-inside i l)
+      ∙ at-map (λ m. minus f 0 (times f (point s m) (inverse f (point s p)))) (mates s p) i l
       ∙ ap (λ y. minus f 0 (times f y (inverse f (point s p)))) (mate-point i l))
 
-  pub turned-weight : (i : ℕ) → i < s .r → (w : ℕ) → w ≡ (q (s .field) - 1) / size s
+  pub turned-weight : (i : ℕ) → i < length (mates s p) → (w : ℕ) → w ≡ (q (s .field) - 1) / size s
       → minus (s .field) 0 (power (s .field) γ (0 + mate-steps (size s) (member s p) i * w)) ≡ at (weights s p) i
   unfolding point
   turned-weight i l w e =
@@ -96,13 +96,15 @@ module _ (s : Shape) (M : Mending s) (p : ℕ) (h : p < s .n) where
       ∙ ap₂ (λ y x. times f y (inverse f x)) (worked-point s g m w e) (worked-point s g o w e))
       ∙ at-weights i l
 
-  -- the first r entries of the array of weights
-  pub take-weights : (ws : List ℕ) → ws ≡ sixteen (weights s p) → take (s .r) ws ≡ weights s p
-  take-weights ws w = ap (take (s .r)) w ∙ take-sixteen (weights s p) (s .r) length-weights (r-most s P)
+  -- the first entries of the array of weights, one for each mate
+  pub take-weights : (ws : List ℕ) → ws ≡ sixteen (weights s p) → take (length (mates s p)) ws ≡ weights s p
+  take-weights ws w = ap (take (length (mates s p))) w ∙ take-sixteen (weights s p) (length (mates s p)) length-weights mates-most
 
-  pub dotted-repaired : (ws xs : List ℕ) → ws ≡ sixteen (weights s p) → length xs ≡ s .r → dotted (s .field) (take (s .r) ws) (take (s .r) xs) ≡ repaired s p xs
+  pub dotted-repaired : (ws xs : List ℕ) → ws ≡ sixteen (weights s p) → length xs ≡ length (mates s p)
+      → dotted (s .field) (take (length xs) ws) (take (length xs) xs) ≡ repaired s p xs
   unfolding repaired restored weights
-  dotted-repaired ws xs w l = ap₂ (dotted (s .field)) (take-weights ws w) (take-all (s .r) xs (omega arith))
+  dotted-repaired ws xs w e =
+      ap₂ (dotted (s .field)) (ap (λ k. take k ws) e ∙ take-weights ws w) (take-all (length xs) xs (omega arith))
 
 pub weights-answered : (n : ℕ) (s : Shape) (p : ℕ) (x : RepairWeights) → weights-refusal n s p ≡ 0 → Weights-say n s p x → x .weights ≡ sixteen (weights s p)
 weights-answered n s p x e says = says .weights ∙ ap (λ b. sixteen (cond b (weights s p) [])) (eq-eqb (weights-refusal n s p) 0 e)

@@ -7,8 +7,7 @@ use Rattle.algebra.specs.Sequence.{at}
 use Rattle.algebra.proofs.Tabulate.{at-tabulate}
 use Rattle.algebra.proofs.Filling.{Filled, filled-none, filled-more}
 use Rattle.code.specs.declared.Shape.{Shape}
-use Rattle.code.specs.Shape.{step}
-use Rattle.code.proofs.Bounds.{r-most}
+use Rattle.code.specs.Shape.{step, members}
 use Rattle.layout.specs.Step.{mate-member}
 use Rattle.layout.proofs.Spans.{member-in-span, span-byte}
 use Rattle.weights.proofs.Sixteen.{sixteen-of}
@@ -22,32 +21,45 @@ abbrev symbol-at : (part : List ℕ) → (step member k : ℕ) → ℕ
 symbol-at xs t i k = at xs (mate-member i k * t)
 
 abbrev Inv-loop : tie.InvT-loop
-Inv-loop part member r step symbols₀ i₀ symbols i = (i ≤ r) × Filled (symbol-at part step member) i (replicate 16 0) symbols
+Inv-loop group part member number step symbols₀ i₀ symbols i = (i ≤ number) × Filled (symbol-at part step member) i (replicate 16 0) symbols
 
 abbrev μ-loop : tie.MeasureT-loop
-μ-loop part member r step symbols₀ i₀ symbols i = r - i
+μ-loop group part member number step symbols₀ i₀ symbols i = number - i
+
+members-of-requires : tie.Need-members-of-requires Inv-loop μ-loop
+members-of-requires c κs = let s = c .before in (s .pre .0 .placed, omega (arith, s .pre .1))
+
+sub-number : tie.Need-sub-number Inv-loop μ-loop
+sub-number c = omega (arith, c .members-of .ensures .1)
 
 step-of-requires : tie.Need-step-of-requires Inv-loop μ-loop
-step-of-requires c κs = c .before .pre .0 .placed
+step-of-requires c κs = c .before .before .pre .0 .placed
+
+-- there are at most sixteen
+few : (c : tie.After-members-of Inv-loop μ-loop) → c .members-of .result ≤ 17
+few c = omega (arith, c .members-of .ensures .2, c .before .before .pre .0 .placed .size-most)
 
 loop-holds : tie.Need-loop-holds Inv-loop μ-loop
-loop-holds c = let a = c .before .before .args in (omega arith, filled-none (symbol-at (a .part .now) (c .step-of .result) (a .member)) (replicate 16 0))
+loop-holds c = let a = c .before .before .before .args in (omega arith, filled-none (symbol-at (a .part .now) (c .step-of .result) (a .member)) (replicate 16 0))
 
 mate-member-requires : tie.Need-mate-member-requires Inv-loop μ-loop
-mate-member-requires c κs = let s = c .before .before .before .before in omega (arith, r-most (s .args .shape) (s .pre .0 .placed))
+mate-member-requires c κs = omega (arith, few (c .before .before .before))
 
 -- the mate stands in the group's span, which is small
-mate-below : (c : tie.After-mate-member Inv-loop μ-loop) → let s = c .before .before .before .before .before in
+mate-below : (c : tie.After-mate-member Inv-loop μ-loop) → let s = c .before .before .before .before .before .before in
     (c .mate-member .result * c .before .before .before .step-of .result < length (s .args .part .now)) × (length (s .args .part .now) ≤ 255)
 mate-below c =
-    let s = c .before .before .before .before .before in
-    let h = s .args .shape in
-    let M = s .pre .0 in
-    let m : ℕ = mate-member (s .args .member) (c .before .before .loop .i) in
-    let l = member-in-span h (M .placed) m (mate-within h (M .one) (s .args .member) (c .before .before .loop .i) (c .before .loop-test .taken)) in
-    let e : c .mate-member .result * c .before .before .before .step-of .result ≡ m * step h = ap₂ (λ a b. a * b) (c .mate-member .ensures) (c .before .before .before .step-of .ensures) in (
-      omega (arith, s .pre .2),
-      omega (arith, s .pre .2, span-byte h (M .placed)),
+    let s = c .before .before .before .before .before .before in
+    let a = s .args in
+    let P = s .pre .0 .placed in
+    let i = c .before .before .loop .i in
+    let m : ℕ = mate-member (a .member) i in
+    let b : i < members (a .shape) (a .group) - 1 = omega (arith, c .before .loop-test .taken, c .before .before .before .before .members-of .ensures .0) in
+    let l = member-in-span (a .shape) P (a .group) m (mate-within (members (a .shape) (a .group)) (a .member) i b) in
+    let t = c .before .before .before .step-of in
+    let e : c .mate-member .result * t .result ≡ m * step (a .shape) = ap₂ (λ a b. a * b) (c .mate-member .ensures) (t .ensures) in (
+      omega (arith, s .pre .3),
+      omega (arith, s .pre .3, span-byte (a .shape) P (a .group) (s .pre .1)),
     )
 
 mul-symbols : tie.Need-mul-symbols Inv-loop μ-loop
@@ -60,50 +72,49 @@ shared-slice-read-symbols : tie.Need-shared-slice-read-symbols Inv-loop μ-loop
 shared-slice-read-symbols c = mate-below (c .before) .0
 
 cast-symbols-2 : tie.Need-cast-symbols-2 Inv-loop μ-loop
-cast-symbols-2 c = let s = c .before .before .before .before .before .before in omega (arith, r-most (s .args .shape) (s .pre .0 .placed))
+cast-symbols-2 c = omega (arith, few (c .before .before .before .before .before))
 
 array-write-symbols : tie.Need-array-write-symbols Inv-loop μ-loop
-array-write-symbols c =
-    let s = c .before .before .before .before .before .before in
-    omega (arith, r-most (s .args .shape) (s .pre .0 .placed), c .before .before .before .loop .inv .1 .size)
+array-write-symbols c = omega (arith, few (c .before .before .before .before .before), c .before .before .before .loop .inv .1 .size)
 
 add-i : tie.Need-add-i Inv-loop μ-loop
-add-i c = let s = c .before .before .before .before .before .before in omega (arith, r-most (s .args .shape) (s .pre .0 .placed))
+add-i c = omega (arith, few (c .before .before .before .before .before))
 
 loop-less : tie.Need-loop-less Inv-loop μ-loop
 loop-less c = omega arith
 
 loop-again : tie.Need-loop-again Inv-loop μ-loop
 loop-again c =
-    let s = c .before .before .before .before .before .before in
-    let a = s .args in
+    let a = c .before .before .before .before .before .before .before .args in
     let l = c .before .before .before .loop in
     let t = c .before .before .before .before .step-of .result in
     let m = c .before .mate-member in (
       omega arith,
       filled-more (symbol-at (a .part .now) t (a .member)) (l .i) (at (a .part .now) (m .result * t)) (replicate 16 0) (l .symbols)
-          (omega (arith, r-most (a .shape) (s .pre .0 .placed), l .inv .1 .size)) (ap (λ k. at (a .part .now) (k * t)) (m .ensures)) (l .inv .1),
+          (omega (arith, few (c .before .before .before .before .before), l .inv .1 .size)) (ap (λ k. at (a .part .now) (k * t)) (m .ensures)) (l .inv .1),
     )
 
 -- the symbols gathered are the list's
-gathered : (s : Shape) (i t : ℕ) → t ≡ step s → (xs ys zs : List ℕ) → Filled (symbol-at xs t i) (s .r) ys zs → Filled (at (part-mates s i xs)) (s .r) ys zs
+gathered : (s : Shape) (j i t : ℕ) → t ≡ step s → (xs ys zs : List ℕ) → Filled (symbol-at xs t i) (members s j - 1) ys zs
+    → Filled (at (part-mates s j i xs)) (members s j - 1) ys zs
 unfolding part-mates
-gathered s i t e xs ys zs F =
+gathered s j i t e xs ys zs F =
     record {
       size = F .size;
-      below = λ k h. F .below k h ∙ ap (λ t. symbol-at xs t i k) e ∙ sym (at-tabulate (symbol-at xs (step s) i) 0 (s .r) k h);
+      below = λ k h. F .below k h ∙ ap (λ t. symbol-at xs t i k) e ∙ sym (at-tabulate (symbol-at xs (step s) i) 0 (members s j - 1) k h);
       above = F .above;
     }
 
 returns : tie.Need-returns Inv-loop μ-loop
 returns c =
-    let a = c .before .before .before .before .args in
+    let a = c .before .before .before .before .before .args in
     let l = c .before .loop in
     let t = c .before .before .step-of in
-    let e : l .i ≡ a .shape .r = omega arith in
-    let F : Filled (symbol-at (a .part .now) (t .result) (a .member)) (a .shape .r) (replicate 16 0) (l .symbols) = rw e at (l .inv .1) in
-    sixteen-of (part-mates (a .shape) (a .member) (a .part .now)) (a .shape .r) (l .symbols) (sym (length-mates-part (a .shape) (a .member) (a .part .now)))
-    (gathered (a .shape) (a .member) (t .result) (t .ensures) (a .part .now) (replicate 16 0) (l .symbols) F)
+    let e : l .i ≡ members (a .shape) (a .group) - 1 = omega (arith, c .before .before .before .members-of .ensures .0) in
+    let F : Filled (symbol-at (a .part .now) (t .result) (a .member)) (members (a .shape) (a .group) - 1) (replicate 16 0) (l .symbols) = rw e at (l .inv .1) in
+    sixteen-of (part-mates (a .shape) (a .group) (a .member) (a .part .now)) (members (a .shape) (a .group) - 1) (l .symbols)
+    (sym (length-mates-part (a .shape) (a .group) (a .member) (a .part .now)))
+    (gathered (a .shape) (a .group) (a .member) (t .result) (t .ensures) (a .part .now) (replicate 16 0) (l .symbols) F)
 
 pub mates-of-spec : {M : Type 1} → statement M
 mates-of-spec =
@@ -111,6 +122,8 @@ mates-of-spec =
     (tie.spec
     Inv-loop
     μ-loop
+    members-of-requires
+    sub-number
     step-of-requires
     loop-holds
     mate-member-requires

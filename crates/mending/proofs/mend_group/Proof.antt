@@ -1,15 +1,14 @@
 use borrow.Author.Needs.{needs}
 use mathlib.Core.Path.{_≡_, refl, sym, ap, ap₂, subst, _∙_}
-use Prim.Native.Nat.{ℕ, _*_, _≤_, _<_}
+use Prim.Native.Nat.{ℕ, _*_, _-_, _≤_, _<_}
 use native.Mathlib.Omega.{arith}
 use lib.ListN.{length, set}
 use borrow.Author.Tests.{eq-eqb, ne-eqb}
 use Rattle.algebra.specs.Sequence.{at, count}
-use Rattle.code.specs.Shape.{size, step, slot-at}
+use Rattle.code.specs.Shape.{step, members, slot-at}
 use Rattle.code.specs.Decoding.{lost}
 use Rattle.code.specs.Repair.{weights, repaired}
-use Rattle.code.proofs.Places.{slot-inside}
-use Rattle.code.proofs.Bounds.{r-most}
+use Rattle.code.proofs.Mates.{member-slot, members-most}
 use Rattle.layout.specs.Step.{span}
 use Rattle.layout.proofs.Spans.{member-in-span, span-byte}
 use Rattle.weights.proofs.Sixteen.{length-sixteen}
@@ -18,37 +17,37 @@ use Rattle.mending.proofs.Mended.{same-part, mended-part, mended-symbol
 use Rattle.mending.proofs.mend_group.Statement.{statement}
 use Rattle.mending.proofs.mend_group.Tie as tie
 
-size-of-requires : tie.Need-size-of-requires
-size-of-requires c κs = c .before .before .pre .2 .placed
+members-of-requires : tie.Need-members-of-requires
+members-of-requires c κs = let s = c .before .before in (s .pre .2 .placed, omega (arith, s .pre .3))
 
-cast-size : tie.Need-cast-size
-cast-size c = omega (arith, c .size-of .ensures, c .before .before .before .pre .2 .placed .size-most)
+cast-members : tie.Need-cast-members
+cast-members c = omega (arith, c .members-of .ensures .2, c .before .before .before .pre .2 .placed .size-most)
 
 step-of-requires : tie.Need-step-of-requires
 step-of-requires c κs = c .before .before .before .pre .2 .placed
 
 -- the members stand in the span
-inside : (c : tie.After-step-of) → let s = c .before .before .before .before in (i : ℕ) → i < c .before .size-of .result → i * c .step-of .result < span (s .args .shape)
+inside : (c : tie.After-step-of) → let a = c .before .before .before .before .args in (i : ℕ) → i < c .before .members-of .result → i * c .step-of .result < span (a .shape) (a .group)
 inside c i l =
     let s = c .before .before .before .before in
     let h = s .args .shape in
     let e : i * c .step-of .result ≡ i * step h = ap (λ t. i * t) (c .step-of .ensures) in
-    omega (arith, member-in-span h (s .pre .2 .placed) i (omega (arith, c .before .size-of .ensures)))
+    omega (arith, member-in-span h (s .pre .2 .placed) (s .args .group) i (omega (arith, c .before .members-of .ensures .0)))
 
 cast-step : tie.Need-cast-step
 cast-step c = search needs
 
 losses-from-requires : tie.Need-losses-from-requires
-losses-from-requires c κs = λ i l. let s = c .before .before .before .before .before in omega (arith, inside (c .before) i l, s .pre .5)
+losses-from-requires c κs = λ i l. omega (arith, inside (c .before) i l, c .before .before .before .before .before .pre .5)
 
 -- how many members are lost
 counted : (c : tie.After-losses-from) → let a = c .before .before .before .before .before .before .args in
-    c .losses-from .result ≡ count (λ i. lost (a .marks .now) (i * step (a .shape))) (size (a .shape))
+    c .losses-from .result ≡ count (λ i. lost (a .marks .now) (i * step (a .shape))) (members (a .shape) (a .group))
 counted c =
     let a = c .before .before .before .before .before .before .args in
     let t = c .before .before .step-of in
-    let z = c .before .before .before .size-of in
-    lone-count (a .shape) (a .marks .now) (t .result) (z .result) (c .losses-from .result) (t .ensures) (z .ensures) (c .losses-from .ensures)
+    let z = c .before .before .before .members-of in
+    lone-count (a .shape) (a .group) (a .marks .now) (t .result) (z .result) (c .losses-from .result) (t .ensures) (z .ensures .0) (c .losses-from .ensures)
 
 same-length : tie.Need-same-length
 same-length c = search needs
@@ -56,24 +55,25 @@ same-length c = search needs
 returns : tie.Need-returns
 unfolding lone
 returns c =
-    let s = c .before .before .before .before .before .before .before in
-    let a = s .args in
+    let a = c .before .before .before .before .before .before .before .args in
+    let h = a .shape in
+    let j = a .group in
     let ms = a .marks .now in
-    let n = ne-eqb (count (λ i. lost ms (i * step (a .shape))) (size (a .shape))) 1 (λ z. c .if1 .taken (counted (c .before) ∙ z)) in
+    let n = ne-eqb (count (λ i. lost ms (i * step h)) (members h j)) 1 (λ z. c .if1 .taken (counted (c .before) ∙ z)) in
     record {
       number = rw n refl;
-      word = same-part (a .shape) ms (λ i. repaired (a .shape) (slot-at (a .shape) (a .group) i) (part-mates (a .shape) i (a .part .now))) (a .part .now) n;
-      marks = same-part (a .shape) ms (λ i. 0) ms n;
+      word = same-part h j ms (λ i. repaired h (slot-at h j i) (part-mates h j i (a .part .now))) (a .part .now) n;
+      marks = same-part h j ms (λ i. 0) ms n;
     }
 
 -- just one is
 one-lost : (c : tie.Else1) → let a = c .before .before .before .before .before .before .before .args in
-    count (λ i. lost (a .marks .now) (i * c .before .before .before .step-of .result)) (c .before .before .before .before .size-of .result) ≡ 1
+    count (λ i. lost (a .marks .now) (i * c .before .before .before .step-of .result)) (c .before .before .before .before .members-of .result) ≡ 1
 one-lost c =
     let a = c .before .before .before .before .before .before .before .args in
     let t = c .before .before .before .step-of in
-    let z = c .before .before .before .before .size-of in
-    ap₂ (λ t z. count (λ i. lost (a .marks .now) (i * t)) z) (t .ensures) (z .ensures) ∙ sym (counted (c .before)) ∙ c .if1 .left
+    let z = c .before .before .before .before .members-of in
+    ap₂ (λ t z. count (λ i. lost (a .marks .now) (i * t)) z) (t .ensures) (z .ensures .0) ∙ sym (counted (c .before)) ∙ c .if1 .left
 
 lost-member-requires : tie.Need-lost-member-requires
 lost-member-requires c κs =
@@ -81,35 +81,36 @@ lost-member-requires c κs =
     (λ i l. omega (arith, inside (c .before .before .before .before) i l, s .pre .5), one-lost (c .before))
 
 -- the lost member is one of the group's, and stands in the span
-member-within : (c : tie.After-lost-member) → let s = c .before .before .before .before .before .before .before .before .before in
-    (c .lost-member .result < size (s .args .shape)) × (size (s .args .shape) ≤ 17) × (c .lost-member .result * c .before .before .before .before .before .step-of .result < span (s .args .shape)) × (span (s .args .shape) ≤ 255)
+member-within : (c : tie.After-lost-member) → let a = c .before .before .before .before .before .before .before .before .before .args in
+    (c .lost-member .result < members (a .shape) (a .group)) × (members (a .shape) (a .group) ≤ 17)
+    × (c .lost-member .result * c .before .before .before .before .before .step-of .result < span (a .shape) (a .group)) × (span (a .shape) (a .group) ≤ 255)
 member-within c =
     let s = c .before .before .before .before .before .before .before .before .before in
-    let i = c .lost-member in (
-      omega (arith, i .ensures .0, c .before .before .before .before .before .before .size-of .ensures),
-      s .pre .2 .placed .size-most,
+    let i = c .lost-member in
+    let z = c .before .before .before .before .before .before .members-of in (
+      omega (arith, i .ensures .0, z .ensures .0),
+      omega (arith, z .ensures, s .pre .2 .placed .size-most),
       inside (c .before .before .before .before .before) (i .result) (i .ensures .0),
-      span-byte (s .args .shape) (s .pre .2 .placed),
+      span-byte (s .args .shape) (s .pre .2 .placed) (s .args .group) (s .pre .3),
     )
-
-slot-within : (c : tie.After-slot-at) → c .slot-at .result < c .before .before .before .before .before .before .before .before .before .before .args .shape .n
-slot-within c =
-    let s = c .before .before .before .before .before .before .before .before .before .before in
-    let h = s .args .shape in
-    let P = s .pre .2 .placed in
-    omega (arith, c .slot-at .ensures, slot-inside h P (s .pre .2 .whole-groups) (s .args .group) (c .before .lost-member .result) (s .pre .3) (member-within (c .before) .0))
 
 cast-member : tie.Need-cast-member
 cast-member c = omega (arith, member-within c)
 
 slot-at-requires : tie.Need-slot-at-requires
-slot-at-requires c κs = let s = c .before .before .before .before .before .before .before .before .before in (s .pre .2 .placed, s .pre .3, member-within c .0)
+slot-at-requires c κs =
+    let s = c .before .before .before .before .before .before .before .before .before in
+    (s .pre .2 .placed, s .pre .3, omega (arith, member-within c .0, members-most (s .args .shape) (s .pre .2 .placed) (s .args .group)))
 
 weights-of-requires : tie.Need-weights-of-requires
-weights-of-requires c κs = (c .before .before .before .before .before .before .before .before .before .before .pre .2, slot-within c)
+weights-of-requires c κs =
+    let s = c .before .before .before .before .before .before .before .before .before .before in
+    (s .pre .2, omega (arith, c .slot-at .ensures, member-slot (s .args .shape) (s .pre .2 .placed) (s .args .group) (c .before .lost-member .result) (member-within (c .before) .0)))
 
 mates-of-requires : tie.Need-mates-of-requires
-mates-of-requires c κs = let s = c .before .before .before .before .before .before .before .before .before .before .before .before in (s .pre .2, member-within (c .before .before .before) .0, s .pre .4)
+mates-of-requires c κs =
+    let s = c .before .before .before .before .before .before .before .before .before .before .before .before in
+    (s .pre .2, s .pre .3, member-within (c .before .before .before) .0, s .pre .4)
 
 mul-place : tie.Need-mul-place
 mul-place c = omega (arith, member-within (c .before .before .before .before))
@@ -120,27 +121,32 @@ slice-aggregate-dot c = search needs
 slice-aggregate-dot-2 : tie.Need-slice-aggregate-dot-2
 slice-aggregate-dot-2 c = search needs
 
-cast-dot : tie.Need-cast-dot
-cast-dot c = search needs
+sub-dot : tie.Need-sub-dot
+sub-dot c = omega (arith, c .before .before .before .before .before .before .before .before .before .before .before .before .members-of .ensures .1)
 
 dot-requires : tie.Need-dot-requires
 dot-requires c κs =
-    let s = c .before .before .before .before .before .before .before .before .before .before .before .before .before .before .before .before in
+    let s = c .before .before .before .before .before .before .before .before .before .before .before .before .before .before .before in
     let a = s .args in
-    let r = r-most (a .shape) (s .pre .2 .placed) in
-    let i = c .before .before .before .before .before .before .before .lost-member .result in
-    let p = c .before .before .before .before .before .before .slot-at .result in (
+    let i = c .before .before .before .before .before .before .lost-member .result in
+    let p = c .before .before .before .before .before .slot-at .result in
+    let z = c .before .before .before .before .before .before .before .before .before .before .before .before .members-of in
+    let few = member-within (c .before .before .before .before .before .before) .1 in (
       s .pre .0,
       s .pre .1,
-      omega (arith, ap (λ l. length l) (c .before .before .before .before .before .weights-of .ensures), length-sixteen (weights (a .shape) p)),
-      omega (arith, ap (λ l. length l) (c .before .before .before .mates-of .ensures), length-sixteen (part-mates (a .shape) i (a .part .now))),
+      omega (arith, z .ensures .0, few, ap (λ l. length l) (c .before .before .before .before .weights-of .ensures), length-sixteen (weights (a .shape) p)),
+      omega (arith, z .ensures .0, few, ap (λ l. length l) (c .before .before .mates-of .ensures), length-sixteen (part-mates (a .shape) (a .group) i (a .part .now))),
     )
 
 slice-write-part : tie.Need-slice-write-part
-slice-write-part c = omega (arith, member-within (c .before .before .before .before .before .before .before .before), c .before .before .before .before .before .before .before .before .before .before .before .before .before .before .before .before .before .pre .4)
+slice-write-part c =
+    let s = c .before .before .before .before .before .before .before .before .before .before .before .before .before .before .before .before in
+    omega (arith, member-within (c .before .before .before .before .before .before .before), s .pre .4)
 
 slice-write-marks : tie.Need-slice-write-marks
-slice-write-marks c = omega (arith, member-within (c .before .before .before .before .before .before .before .before), c .before .before .before .before .before .before .before .before .before .before .before .before .before .before .before .before .before .pre .5)
+slice-write-marks c =
+    let s = c .before .before .before .before .before .before .before .before .before .before .before .before .before .before .before .before in
+    omega (arith, member-within (c .before .before .before .before .before .before .before), s .pre .5)
 
 same-length-2 : tie.Need-same-length-2
 same-length-2 c = search needs
@@ -151,41 +157,44 @@ same-length-3 c = search needs
 returns-2 : tie.Need-returns-2
 unfolding lone lost
 returns-2 c =
-    let s = c .before .before .before .before .before .before .before .before .before .before .before .before .before .before .before .before .before in
+    let s = c .before .before .before .before .before .before .before .before .before .before .before .before .before .before .before .before in
     let a = s .args in
     let h = a .shape in
+    let j = a .group in
     let P = s .pre .2 .placed in
     let ws = a .part .now in
     let ms = a .marks .now in
-    let m = c .before .before .before .before .before .before .before .before in
+    let m = c .before .before .before .before .before .before .before in
     let i = m .lost-member .result in
-    let t = c .before .before .before .before .before .before .before .before .before .before .before .before .before .step-of in
-    let p = c .before .before .before .before .before .before .before .slot-at in
-    let W = c .before .before .before .before .before .before .weights-of in
-    let N = c .before .before .before .before .mates-of in
-    let y = eq-eqb (count (λ i. lost ms (i * step h)) (size h)) 1 (sym (counted (c .before .before .before .before .before .before .before .before .before .before .before)) ∙ c .before .before .before .before .before .before .before .before .before .before .if1 .left) in
+    let t = c .before .before .before .before .before .before .before .before .before .before .before .before .step-of in
+    let z = c .before .before .before .before .before .before .before .before .before .before .before .before .before .members-of in
+    let p = c .before .before .before .before .before .before .slot-at in
+    let W = c .before .before .before .before .before .weights-of in
+    let N = c .before .before .before .mates-of in
+    let d = c .before .before .before .before .before .before .before .before .before in
+    let y = eq-eqb (count (λ i. lost ms (i * step h)) (members h j)) 1 (sym (counted (d .before)) ∙ d .if1 .left) in
     let place : i * t .result ≡ i * step h = ap (λ n. i * n) (t .ensures) in
-    let b : i * step h < span h = omega (arith, member-within m .2) in
+    let b : i * step h < span h j = omega (arith, member-within m .2) in
     let o = eq-eqb (at ms (i * step h)) 1 (ap (at ms) (sym place) ∙ m .lost-member .ensures .1) in
     let l = member-within m .0 in
     let v = c .dot .result in
-    let g : ℕ → ℕ = λ k. repaired h (slot-at h (a .group) k) (part-mates h k ws) in
-    let e : v ≡ g i = c .dot .ensures ∙ mended-symbol h (s .pre .2) (p .result) (slot-within (c .before .before .before .before .before .before .before)) i (W .result) (N .result) ws (W .ensures) (N .ensures)
-    ∙ ap (λ p. repaired h p (part-mates h i ws)) (p .ensures) in
+    let g : ℕ → ℕ = λ k. repaired h (slot-at h j k) (part-mates h j k ws) in
+    let e : v ≡ g i = c .dot .ensures
+    ∙ mended-symbol h (s .pre .2) j i (s .pre .3) l (p .result) (z .result - 1) (p .ensures) (ap (λ n. n - 1) (z .ensures .0)) (W .result) (N .result) ws (W .ensures) (N .ensures) in
     record {
       number = rw y refl;
-      word = subst (λ (n : ℕ). Members-set h (instead h ms g ws) ws (set ws n v)) (sym place)
-          (mended-part h ms g ws P i v l o y e (omega (arith, s .pre .4)));
-      marks = subst (λ (n : ℕ). Members-set h (instead h ms (λ k. 0) ms) ms (set ms n 0)) (sym place)
-          (mended-part h ms (λ k. 0) ms P i 0 l o y refl (omega (arith, s .pre .5)));
+      word = subst (λ (n : ℕ). Members-set h j (instead h j ms g ws) ws (set ws n v)) (sym place)
+          (mended-part h j ms g ws P i v l o y e (omega (arith, s .pre .4)));
+      marks = subst (λ (n : ℕ). Members-set h j (instead h j ms (λ k. 0) ms) ms (set ms n 0)) (sym place)
+          (mended-part h j ms (λ k. 0) ms P i 0 l o y refl (omega (arith, s .pre .5)));
     }
 
 pub mend-group-spec : {M : Type 1} → statement M
 mend-group-spec =
     tie.close
     (tie.spec
-    size-of-requires
-    cast-size
+    members-of-requires
+    cast-members
     step-of-requires
     cast-step
     losses-from-requires
@@ -199,7 +208,7 @@ mend-group-spec =
     mul-place
     slice-aggregate-dot
     slice-aggregate-dot-2
-    cast-dot
+    sub-dot
     dot-requires
     slice-write-part
     slice-write-marks

@@ -26,23 +26,17 @@ pub record Done (s : Shape) (ws ms : List ℕ) (j : ℕ) (ws′ ms′ : List ℕ
   pub many : number ≡ count (mendable s ms) j
 
 abbrev Inv-loop : tie.InvT-loop
-Inv-loop shape word₀ marks₀ powers logs span all number₀ j₀ word marks number j = (j ≤ all) × Done shape word₀ marks₀ j word marks number
+Inv-loop shape word₀ marks₀ powers logs all number₀ j₀ word marks number j = (j ≤ all) × Done shape word₀ marks₀ j word marks number
 
 abbrev μ-loop : tie.MeasureT-loop
-μ-loop shape word₀ marks₀ powers logs span all number₀ j₀ word marks number j = all - j
-
-span-of-requires : tie.Need-span-of-requires Inv-loop μ-loop
-span-of-requires c κs = c .before .before .pre .2 .placed
-
-cast-span : tie.Need-cast-span Inv-loop μ-loop
-cast-span c = search needs
+μ-loop shape word₀ marks₀ powers logs all number₀ j₀ word marks number j = all - j
 
 groups-of-requires : tie.Need-groups-of-requires Inv-loop μ-loop
-groups-of-requires c κs = c .before .before .before .pre .2 .placed
+groups-of-requires c κs = c .before .before .pre .2 .placed
 
 loop-holds : tie.Need-loop-holds Inv-loop μ-loop
 loop-holds c =
-    let a = c .before .before .before .before .args in
+    let a = c .before .before .before .args in
     let ws = a .word .now in
     let ms = a .marks .now in (
       omega arith,
@@ -50,31 +44,37 @@ loop-holds c =
     )
 
 -- the group is there
-inside : (c : tie.In-loop Inv-loop μ-loop) → c .before .loop .j < groups (c .before .before .before .before .before .before .args .shape)
+inside : (c : tie.In-loop Inv-loop μ-loop) → c .before .loop .j < groups (c .before .before .before .before .before .args .shape)
 inside c = omega (arith, c .loop-test .taken, c .before .before .groups-of .ensures)
 
 first-of-requires : tie.Need-first-of-requires Inv-loop μ-loop
-first-of-requires c κs = (c .before .before .before .before .before .before .pre .2 .placed, inside c)
+first-of-requires c κs = (c .before .before .before .before .before .pre .2 .placed, inside c)
+
+cast-start : tie.Need-cast-start Inv-loop μ-loop
+cast-start c = search needs
+
+span-of-requires : tie.Need-span-of-requires Inv-loop μ-loop
+span-of-requires c κs = (c .before .before .before .before .before .before .pre .2 .placed, inside (c .before))
+
+cast-end : tie.Need-cast-end Inv-loop μ-loop
+cast-end c = search needs
 
 -- the group's span, and that all is small
-within : (c : tie.After-first-of Inv-loop μ-loop) → let s = c .before .before .before .before .before .before .before in
-    (c .first-of .result + c .before .before .before .before .span-of .result ≤ s .args .shape .n) × (s .args .shape .n ≤ 255)
+within : (c : tie.After-span-of Inv-loop μ-loop) → let s = c .before .before .before .before .before .before .before in
+    (c .before .first-of .result + c .span-of .result ≤ s .args .shape .n) × (s .args .shape .n ≤ 255)
 within c =
     let s = c .before .before .before .before .before .before .before in
     let h = s .args .shape in
-    let k = c .before .before .before .before .span-of in
-    let M = s .pre .2 in (
-      span-within h M (c .before .before .loop .j) (c .first-of .result) (k .result) (inside (c .before)) (sym (c .first-of .ensures)) (sym (k .ensures)),
-      n-most h (M .placed),
+    let P = s .pre .2 .placed in
+    let m = c .before .first-of in (
+      span-within h P (c .before .before .before .loop .j) (m .result) (c .span-of .result) (inside (c .before .before)) (sym (m .ensures)) (sym (c .span-of .ensures)),
+      n-most h P,
     )
 
 -- both buffers keep their lengths
-lengths : (c : tie.At-loop Inv-loop μ-loop) → let a = c .before .before .before .before .before .args in
+lengths : (c : tie.At-loop Inv-loop μ-loop) → let a = c .before .before .before .before .args in
     (length (c .loop .word) ≡ a .shape .n) × (length (c .loop .marks) ≡ a .shape .n)
-lengths c = let s = c .before .before .before .before .before in (c .loop .inv .1 .word .same ∙ s .pre .3, c .loop .inv .1 .marks .same ∙ s .pre .4)
-
-cast-start : tie.Need-cast-start Inv-loop μ-loop
-cast-start c = omega (arith, within c)
+lengths c = let s = c .before .before .before .before in (c .loop .inv .1 .word .same ∙ s .pre .3, c .loop .inv .1 .marks .same ∙ s .pre .4)
 
 add-end : tie.Need-add-end Inv-loop μ-loop
 add-end c = omega (arith, within c)
@@ -86,7 +86,7 @@ part-mend-group-start : tie.Need-part-mend-group-start Inv-loop μ-loop
 part-mend-group-start c = omega arith
 
 part-mend-group-end : tie.Need-part-mend-group-end Inv-loop μ-loop
-part-mend-group-end c = omega (arith, within c, lengths (c .before .before))
+part-mend-group-end c = omega (arith, within c, lengths (c .before .before .before))
 
 sub-mend-group-2 : tie.Need-sub-mend-group-2 Inv-loop μ-loop
 sub-mend-group-2 c = omega arith
@@ -95,35 +95,36 @@ part-mend-group-start-2 : tie.Need-part-mend-group-start-2 Inv-loop μ-loop
 part-mend-group-start-2 c = omega arith
 
 part-mend-group-end-2 : tie.Need-part-mend-group-end-2 Inv-loop μ-loop
-part-mend-group-end-2 c = omega (arith, within (c .before), lengths (c .before .before .before))
+part-mend-group-end-2 c = omega (arith, within (c .before), lengths (c .before .before .before .before))
 
 -- how many slots are lent
-lent : (c : tie.After-first-of Inv-loop μ-loop) → let s = c .before .before .before .before .before .before .before in
-    span (s .args .shape) ≡ c .first-of .result + c .before .before .before .before .span-of .result - c .first-of .result
-lent c = omega (arith, c .before .before .before .before .span-of .ensures)
+lent : (c : tie.After-span-of Inv-loop μ-loop) → let s = c .before .before .before .before .before .before .before in
+    span (s .args .shape) (c .before .before .before .loop .j) ≡ c .before .first-of .result + c .span-of .result - c .before .first-of .result
+lent c = omega (arith, c .span-of .ensures)
 
 mend-group-requires : tie.Need-mend-group-requires Inv-loop μ-loop
 mend-group-requires c κs =
     let f = c .before .before in
     let s = f .before .before .before .before .before .before .before in
     let h = s .args .shape in
-    let l = f .before .before .loop in
-    let m = f .first-of in
-    let b = inside (f .before) in
-    let k = m .result + f .before .before .before .before .span-of .result - m .result in
-    let e = lengths (f .before .before) in (
+    let P = s .pre .2 .placed in
+    let l = f .before .before .before .loop in
+    let m = f .before .first-of in
+    let b = inside (f .before .before) in
+    let k = m .result + f .span-of .result - m .result in
+    let e = lengths (f .before .before .before) in (
       s .pre .0,
       s .pre .1,
       s .pre .2,
       b,
-      length-lent h (s .pre .2) (l .j) (m .result) k b (sym (m .ensures)) (lent f) (l .word) (e .0),
-      length-lent h (s .pre .2) (l .j) (m .result) k b (sym (m .ensures)) (lent f) (l .marks) (e .1),
+      length-lent h P (l .j) (m .result) k b (sym (m .ensures)) (lent f) (l .word) (e .0),
+      length-lent h P (l .j) (m .result) k b (sym (m .ensures)) (lent f) (l .marks) (e .1),
     )
 
 -- one group more
 more : (c : tie.After-mend-group Inv-loop μ-loop) → let f = c .before .before .before in
-    let a = f .before .before .before .before .before .before .before .args in let l = f .before .before .loop in
-    let m = f .first-of .result in let k = f .first-of .result + f .before .before .before .before .span-of .result - f .first-of .result in
+    let a = f .before .before .before .before .before .before .before .args in let l = f .before .before .before .loop in
+    let m = f .before .first-of .result in let k = m + f .span-of .result - m in
     Done (a .shape) (a .word .now) (a .marks .now) (l .j + 1) (splice m k (l .word) (c .mend-group .last .1 .1 .0)) (splice m k (l .marks) (c .mend-group .last .1 .1 .1 .0))
     (l .number + c .mend-group .result)
 more c =
@@ -132,11 +133,11 @@ more c =
     let a = s .args in
     let h = a .shape in
     let M = s .pre .2 in
-    let l = f .before .before .loop in
-    let b = inside (f .before) in
-    let m = f .first-of .result in
-    let k = f .first-of .result + f .before .before .before .before .span-of .result - f .first-of .result in
-    let e = sym (f .first-of .ensures) in
+    let l = f .before .before .before .loop in
+    let b = inside (f .before .before) in
+    let m = f .before .first-of .result in
+    let k = m + f .span-of .result - m in
+    let e = sym (f .before .first-of .ensures) in
     let D = l .inv .1 in
     let G = c .mend-group .ensures in
     let ws = a .word .now in
@@ -155,14 +156,14 @@ add-number c =
     let g = c .before .before .before .before in
     let f = g .before .before .before in
     let s = f .before .before .before .before .before .before .before in
-    let l = f .before .before .loop in
-    omega (arith, more g .many, count-most (mendable (s .args .shape) (s .args .marks .now)) (l .j + 1), inside (f .before), groups-most (s .args .shape) (s .pre .2 .placed))
+    let h = s .args .shape in
+    omega (arith, more g .many, count-most (mendable h (s .args .marks .now)) (f .before .before .before .loop .j + 1), inside (f .before .before), groups-most h (s .pre .2 .placed))
 
 add-j : tie.Need-add-j Inv-loop μ-loop
 add-j c =
     let f = c .before .before .before .before .before .before .before in
     let s = f .before .before .before .before .before .before .before in
-    omega (arith, inside (f .before), groups-most (s .args .shape) (s .pre .2 .placed))
+    omega (arith, inside (f .before .before), groups-most (s .args .shape) (s .pre .2 .placed))
 
 loop-less : tie.Need-loop-less Inv-loop μ-loop
 loop-less c = omega arith
@@ -179,14 +180,15 @@ same-length-2 c = c .before .loop .inv .1 .marks .same
 returns : tie.Need-returns Inv-loop μ-loop
 unfolding passed marks-after mended
 returns c =
-    let s = c .before .before .before .before .before .before in
+    let s = c .before .before .before .before .before in
     let a = s .args in
     let h = a .shape in
+    let P = s .pre .2 .placed in
     let l = c .before .loop in
     let D = l .inv .1 in
     let j : l .j ≡ groups h = omega (arith, c .before .before .groups-of .ensures) in (
-      upto-all h (passed-at h (a .word .now) (a .marks .now)) (s .pre .2) (l .j) (a .word .now) (l .word) j (s .pre .3) (D .word),
-      upto-all h (mark-at h (a .marks .now)) (s .pre .2) (l .j) (a .marks .now) (l .marks) j (s .pre .4) (D .marks),
+      upto-all h (passed-at h (a .word .now) (a .marks .now)) P (l .j) (a .word .now) (l .word) j (s .pre .3) (D .word),
+      upto-all h (mark-at h (a .marks .now)) P (l .j) (a .marks .now) (l .marks) j (s .pre .4) (D .marks),
       D .many ∙ ap (count (mendable h (a .marks .now))) j,
     )
 
@@ -196,12 +198,12 @@ mend-groups-spec =
     (tie.spec
     Inv-loop
     μ-loop
-    span-of-requires
-    cast-span
     groups-of-requires
     loop-holds
     first-of-requires
     cast-start
+    span-of-requires
+    cast-end
     add-end
     sub-mend-group
     part-mend-group-start

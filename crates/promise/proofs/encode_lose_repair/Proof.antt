@@ -1,6 +1,6 @@
 use borrow.Author.Needs.{needs}
 use mathlib.Core.Path.{_≡_, refl, sym, ap, subst, _∙_}
-use Prim.Native.Nat.{_≤_, _<_}
+use Prim.Native.Nat.{_<_}
 use native.Mathlib.Omega.{arith}
 use lib.Dec.{ltb, ltb→lt}
 use lib.ListN.{length}
@@ -8,7 +8,6 @@ use lib.Seq.{length-take-le}
 use Rattle.code.specs.Family.{single, code-refusal}
 use Rattle.code.specs.Laws.{Mending}
 use Rattle.code.proofs.Accepted.{mending-of}
-use Rattle.code.proofs.Bounds.{r-most}
 use Rattle.code.proofs.Questions.{asked, or-ask-passed}
 use Rattle.repair.specs.Mates.{Repair-says}
 use Rattle.weights.proofs.Sixteen.{length-sixteen}
@@ -33,8 +32,9 @@ good t =
     let s = t .before .before .before .before .before .before .before .send in
     sound (a .code) (a .message .now) (a .marks .now) (a .other .now) (a .codeword .now) (s .last .1 .1 .1 .1 .0) (a .word .now) (s .last .1 .1 .1 .1 .1 .0) (s .result) (s .ensures) (sent t)
 
-r-few : (t : tie.Else1) → t .before .before .before .before .before .before .before .before .before .before .before .before .before .before .before .args .code .r ≤ 16
-r-few t = let a = t .before .before .before .before .before .before .before .before .before .before .before .before .before .before .before .args in r-most (single (a .code)) (mending-of (a .code) (good t .0) .placed)
+-- the code's groups stand one loss
+mends : (t : tie.After-single) → Mending (t .single .result)
+mends t = subst Mending (sym (t .single .ensures)) (mending-of _ (good (t .before) .0))
 
 send-requires : tie.Need-send-requires
 send-requires c κs = search needs
@@ -61,27 +61,27 @@ single-requires c κs = search needs
 mates-in-requires : tie.Need-mates-in-requires
 mates-in-requires c κs =
     let t = c .before .before in
-    let a = t .before .before .before .before .before .before .before .before .before .before .before .before .before .before .before .args in
-    let e = c .before .single .ensures in (
-      subst Mending (sym e) (mending-of (a .code) (good t .0)),
-      rw e (below t),
-      rw e (good t .1),
-    )
+    let e = c .before .single .ensures in
+    (mends (c .before), rw e (below t), rw e (good t .1))
 
-cast-r : tie.Need-cast-r
-cast-r c = search needs
+mates-number-requires : tie.Need-mates-number-requires
+mates-number-requires c κs = mends (c .before .before)
+
+cast-number : tie.Need-cast-number
+cast-number c = search needs
 
 -- there are sixteen
 sixteen-all : (c : tie.After-mates-in) → length (c .mates-in .result) ≡ 16
 sixteen-all c = ap length (c .mates-in .ensures) ∙ length-sixteen _
 
 array-share-prefix-mates : tie.Need-array-share-prefix-mates
-array-share-prefix-mates c = omega (arith, sixteen-all (c .before), r-few (c .before .before .before .before))
+array-share-prefix-mates c = omega (arith, sixteen-all (c .before), c .mates-number .ensures .1)
 
 slice-aggregate-repair : tie.Need-slice-aggregate-repair
 slice-aggregate-repair c =
-    let t = c .before .before .before .before .before in
-    sym (length-take-le (t .before .before .before .before .before .before .before .before .before .before .before .before .before .before .before .args .code .r) (c .before .before .mates-in .result) (omega (arith, sixteen-all (c .before .before), r-few t)))
+    let m = c .before .before in
+    let n = c .before .mates-number in
+    sym (length-take-le (n .result) (m .mates-in .result) (omega (arith, sixteen-all m, n .ensures .1)))
 
 repair-requires : tie.Need-repair-requires
 repair-requires c κs = search needs
@@ -98,8 +98,9 @@ returns-2 c =
     let a = t .before .before .before .before .before .before .before .before .before .before .before .before .before .before .before .args in
     let s = t .before .before .before .before .before .before .before .send in
     let m = c .before .before .before .mates-in in
+    let n = c .before .before .mates-number in
     let e = c .before .before .before .before .before .single .ensures in
-    let k = taken (single (a .code)) (mending-of (a .code) (good t .0)) (a .slot) (below t) (s .last .1 .1 .1 .1 .1 .0) (m .result) (rw e at (m .ensures)) in
+    let k = taken (single (a .code)) (a .slot) (below t) (s .last .1 .1 .1 .1 .1 .0) (n .result) (m .result) (rw e at (n .ensures .0)) (n .ensures .1) (rw e at (m .ensures)) in
     restored-given (a .code) (a .message .now) (a .marks .now) (a .other .now) (a .codeword .now) (s .last .1 .1 .1 .1 .0) (a .word .now) (s .last .1 .1 .1 .1 .1 .0) (a .slot) (s .result) (c .repair .result)
     (s .ensures) (sym (t .before .ask .ensures) ∙ t .if1 .left) (sent t)
     (subst (λ xs. Repair-says (code-refusal (a .code)) (single (a .code)) (a .slot) xs (c .repair .result)) k (c .repair .ensures))
@@ -115,7 +116,8 @@ encode-lose-repair-spec =
     returns
     single-requires
     mates-in-requires
-    cast-r
+    mates-number-requires
+    cast-number
     array-share-prefix-mates
     slice-aggregate-repair
     repair-requires

@@ -2,8 +2,8 @@ use borrow.Author.Needs.{needs}
 use mathlib.Core.Path.{_≡_, sym, ap, _∙_}
 use Prim.Native.Nat.{_+_, _-_, _≤_}
 use native.Mathlib.Omega.{arith}
-use Rattle.code.specs.Shape.{first}
 use Rattle.code.proofs.Bounds.{n-most}
+use Rattle.code.proofs.Mates.{member-own}
 use Rattle.layout.specs.Step.{span}
 use Rattle.layout.proofs.Spans.{span-within, length-lent}
 use Rattle.weights.specs.Weights.{sixteen}
@@ -21,7 +21,7 @@ cast-start : tie.Need-cast-start
 cast-start c = search needs
 
 span-of-requires : tie.Need-span-of-requires
-span-of-requires c κs = c .before .before .before .pre .0 .placed
+span-of-requires c κs = (c .before .before .before .pre .0 .placed, c .before .group-of .ensures .1)
 
 cast-end : tie.Need-cast-end
 cast-end c = search needs
@@ -32,10 +32,10 @@ within : (c : tie.After-span-of) → let s = c .before .before .before .before i
 within c =
     let s = c .before .before .before .before in
     let h = s .args .shape in
-    let M = s .pre .0 in
+    let P = s .pre .0 .placed in
     let g = c .before .before .group-of in (
-      span-within h M (g .result) (c .before .first-of .result) (c .span-of .result) (g .ensures .1) (sym (c .before .first-of .ensures)) (sym (c .span-of .ensures)),
-      n-most h (M .placed),
+      span-within h P (g .result) (c .before .first-of .result) (c .span-of .result) (g .ensures .1) (sym (c .before .first-of .ensures)) (sym (c .span-of .ensures)),
+      n-most h P,
     )
 
 add-end : tie.Need-add-end
@@ -54,18 +54,20 @@ part-mates-of-end : tie.Need-part-mates-of-end
 part-mates-of-end c = omega (arith, within (c .before), c .before .before .before .before .before .pre .2)
 
 -- how many slots are lent
-lent : (c : tie.After-span-of) → span (c .before .before .before .before .args .shape) ≡ c .before .first-of .result + c .span-of .result - c .before .first-of .result
+lent : (c : tie.After-span-of) → span (c .before .before .before .before .args .shape) (c .before .before .group-of .result) ≡ c .before .first-of .result + c .span-of .result - c .before .first-of .result
 lent c = omega (arith, c .span-of .ensures)
 
 mates-of-requires : tie.Need-mates-of-requires
 mates-of-requires c κs =
     let s = c .before .before .before .before .before .before in
+    let P = s .pre .0 .placed in
     let g = c .before .before .before .before .group-of in
     let m = c .before .before .before .first-of in
     let k = c .before .before in (
       s .pre .0,
-      c .before .member-of .ensures .1,
-      length-lent (s .args .shape) (s .pre .0) (g .result) (m .result) (m .result + k .span-of .result - m .result) (g .ensures .1) (sym (m .ensures)) (lent k) (s .args .word .now) (s .pre .2),
+      g .ensures .1,
+      rw (g .ensures .0, c .before .member-of .ensures .0) (member-own (s .args .shape) P (s .args .slot) (s .pre .1)),
+      length-lent (s .args .shape) P (g .result) (m .result) (m .result + k .span-of .result - m .result) (g .ensures .1) (sym (m .ensures)) (lent k) (s .args .word .now) (s .pre .2),
     )
 
 returns : tie.Need-returns
@@ -78,8 +80,8 @@ returns c =
     let o = c .before .before .member-of in
     c .mates-of .ensures
     ∙ ap sixteen
-    (gathered (a .shape) (s .pre .0) (a .slot) (s .pre .1) (a .word .now) (m .result) (m .result + k .span-of .result - m .result) (o .result)
-    (sym (m .ensures ∙ ap (first (a .shape)) (g .ensures .0))) (lent k) (o .ensures .0))
+    (gathered (a .shape) (a .slot) (s .pre .1) (a .word .now) (s .pre .0 .placed) (m .result) (m .result + k .span-of .result - m .result) (g .result) (o .result)
+    (sym (m .ensures)) (lent k) (g .ensures .0) (o .ensures .0))
 
 pub mates-in-spec : {M : Type 1} → statement M
 mates-in-spec =

@@ -10,9 +10,10 @@ use lib.ListN.{length}
 use Rattle.algebra.specs.Sequence.{all-below}
 use Rattle.field.specs.Field.{q}
 use Rattle.code.specs.declared.Shape.{Shape}
+use Rattle.code.specs.Shape.{mates-number}
+use Rattle.code.specs.Laws.{Mending}
 use Rattle.code.specs.Question.{ask, or-ask}
 use Rattle.code.proofs.Questions.{ask-then, ask-and, or-ask-stop, or-ask-passed, asked}
-use Rattle.code.proofs.Bounds.{r-most}
 use Rattle.repair.specs.Mates.{strips-fit, mates-refusal}
 use Rattle.repair.proofs.mates_refusal.Statement.{statement}
 use Rattle.repair.proofs.mates_refusal.Tie as tie
@@ -23,19 +24,19 @@ module _ (n : ℕ) (s : Shape) (p l : ℕ) (xs : List ℕ) where
   last = ask (all-below (q (s .field)) xs) 6 0
 
   after-length : (b : ℕ) → b ≡ or-ask (or-ask n (ask (leb 1 l) 5 0)) (ask (leb l 4096) 5 0)
-      → or-ask b (ask (eqb (length xs) (s .r * l)) 5 (ask (ltb p (s .n)) 7 last)) ≡ mates-refusal n s p l xs
+      → or-ask b (ask (eqb (length xs) (mates-number s p * l)) 5 (ask (ltb p (s .n)) 7 last)) ≡ mates-refusal n s p l xs
   unfolding mates-refusal strips-fit
   after-length b e =
-      let fit = eqb (length xs) (s .r * l) in
+      let fit = eqb (length xs) (mates-number s p * l) in
       let rest : ℕ = ask (ltb p (s .n)) 7 last in
       ap (λ b. or-ask b (ask fit 5 rest)) e ∙ ask-then (or-ask n (ask (leb 1 l) 5 0)) (leb l 4096) 4 (ask fit 5 rest)
       ∙ ask-then n (leb 1 l) 4 (ask (leb l 4096) 5 (ask fit 5 rest))
       ∙ ap (or-ask n) (ask-and (leb 1 l) (leb l 4096) 5 (ask fit 5 rest) ∙ ask-and (leb 1 l && leb l 4096) fit 5 rest)
 
   after-slot : (b d : ℕ) → b ≡ or-ask (or-ask n (ask (leb 1 l) 5 0)) (ask (leb l 4096) 5 0)
-      → d ≡ or-ask (or-ask b (ask (eqb (length xs) (s .r * l)) 5 0)) (ask (ltb p (s .n)) 7 0) → or-ask d last ≡ mates-refusal n s p l xs
+      → d ≡ or-ask (or-ask b (ask (eqb (length xs) (mates-number s p * l)) 5 0)) (ask (ltb p (s .n)) 7 0) → or-ask d last ≡ mates-refusal n s p l xs
   after-slot b d e k =
-      let fit = eqb (length xs) (s .r * l) in
+      let fit = eqb (length xs) (mates-number s p * l) in
       ap (λ d. or-ask d last) k ∙ ask-then (or-ask b (ask fit 5 0)) (ltb p (s .n)) 6 last ∙ ask-then b fit 4 (ask (ltb p (s .n)) 7 last)
       ∙ after-length b e
 
@@ -45,11 +46,13 @@ length-asked : (c : tie.After-ask2) → let a = c .before .before .before .args 
 length-asked c = let a = c .before .before .before .args in c .ask2 .ensures ∙ ap (λ x. or-ask x (ask (leb (a .l) 4096) 5 0)) (c .before .ask .ensures)
 
 -- after the slot
-slot-asked : (c : tie.After-ask4) → let s = c .before .before .before .before .before in let a = s .before .before .before .args in
-    c .ask4 .result ≡ or-ask (or-ask (s .ask2 .result) (ask (eqb (length (a .strips .now)) (a .shape .r * a .l)) 5 0)) (ask (ltb (a .slot) (a .shape .n)) 7 0)
+slot-asked : (c : tie.After-ask4) → let s = c .before .before .before .before in let a = s .before .before .before .args in
+    c .ask4 .result ≡ or-ask (or-ask (s .ask2 .result) (ask (eqb (length (a .strips .now)) (mates-number (a .shape) (a .slot) * a .l)) 5 0)) (ask (ltb (a .slot) (a .shape .n)) 7 0)
 slot-asked c =
-    let a = c .before .before .before .before .before .before .before .before .args in
-    c .ask4 .ensures ∙ ap (λ x. or-ask x (ask (ltb (a .slot) (a .shape .n)) 7 0)) (c .before .before .ask3 .ensures)
+    let s = c .before .before .before .before in
+    let a = s .before .before .before .args in
+    let k = ap (λ k. or-ask (s .ask2 .result) (ask (eqb (length (a .strips .now)) (k * a .l)) 5 0)) (c .before .before .mates-number .ensures .0) in
+    c .ask4 .ensures ∙ ap (λ x. or-ask x (ask (ltb (a .slot) (a .shape .n)) 7 0)) (c .before .ask3 .ensures ∙ k)
 
 ask-requires : tie.Need-ask-requires
 ask-requires c κs = search needs
@@ -64,19 +67,25 @@ returns c =
     or-ask-stop (b .ask2 .result) _ (c .if1 .taken)
     ∙ after-length (a .refusal) (a .shape) (a .slot) (a .l) (a .strips .now) (b .ask2 .result) (length-asked b)
 
-cast-ask : tie.Need-cast-ask
-cast-ask c = search needs
-
 -- the numbers are in range here
-mul-ask : tie.Need-mul-ask
-mul-ask c =
-    let b = c .before .before in
+in-range : (c : tie.Else1) → let a = c .before .before .before .before .args in Mending (a .shape) × (a .l ≤ 4096)
+in-range c =
+    let b = c .before in
     let s = b .before .before .before in
     let a = s .args in
-    let t = or-ask-passed (or-ask (a .refusal) (ask (leb 1 (a .l)) 5 0)) (ask (leb (a .l) 4096) 5 0) (sym (length-asked b) ∙ c .before .if1 .left) in
-    let l = leb→le (a .l) 4096 (asked (leb (a .l) 4096) 4 0 (t .1) .0) in
-    let M = s .pre (or-ask-passed (a .refusal) (ask (leb 1 (a .l)) 5 0) (t .0) .0) in
-    let m : a .shape .r * a .l ≤ 16 * 4096 = mul-le-mul (r-most (a .shape) (M .placed)) l in
+    let t = or-ask-passed (or-ask (a .refusal) (ask (leb 1 (a .l)) 5 0)) (ask (leb (a .l) 4096) 5 0) (sym (length-asked b) ∙ c .if1 .left) in
+    (s .pre (or-ask-passed (a .refusal) (ask (leb 1 (a .l)) 5 0) (t .0) .0), leb→le (a .l) 4096 (asked (leb (a .l) 4096) 4 0 (t .1) .0))
+
+mates-number-requires : tie.Need-mates-number-requires
+mates-number-requires c κs = in-range c .0
+
+cast-wanted : tie.Need-cast-wanted
+cast-wanted c = search needs
+
+mul-wanted : tie.Need-mul-wanted
+mul-wanted c =
+    let a = c .before .before .before .before .before .args in
+    let m : c .mates-number .result * a .l ≤ 16 * 4096 = mul-le-mul (c .mates-number .ensures .1) (in-range (c .before) .1) in
     omega arith
 
 ask-requires-3 : tie.Need-ask-requires-3
@@ -88,7 +97,7 @@ ask-requires-4 c κs = search needs
 returns-2 : tie.Need-returns-2
 returns-2 c =
     let d = c .before in
-    let b = d .before .before .before .before .before in
+    let b = d .before .before .before .before in
     let a = b .before .before .before .args in
     or-ask-stop (d .ask4 .result) _ (c .if2 .taken)
     ∙ after-slot (a .refusal) (a .shape) (a .slot) (a .l) (a .strips .now) (b .ask2 .result) (d .ask4 .result) (length-asked b) (slot-asked d)
@@ -105,7 +114,7 @@ ask-requires-5 c κs = search needs
 returns-3 : tie.Need-returns-3
 returns-3 c =
     let d = c .before .before .before .before in
-    let b = d .before .before .before .before .before in
+    let b = d .before .before .before .before in
     let a = b .before .before .before .args in
     c .ask5 .ensures
     ∙ ap (λ t. or-ask (d .ask4 .result) (ask t 6 0)) (c .before .strips-below .ensures ∙ ap (λ m. all-below m (a .strips .now)) (c .before .before .order .ensures .0))
@@ -118,8 +127,9 @@ mates-refusal-spec =
     ask-requires
     ask-requires-2
     returns
-    cast-ask
-    mul-ask
+    mates-number-requires
+    cast-wanted
+    mul-wanted
     ask-requires-3
     ask-requires-4
     returns-2

@@ -1,10 +1,12 @@
 use borrow.Author.Needs.{needs}
 use mathlib.Core.Path.{_≡_, refl, sym, ap, _∙_}
+use Prim.Native.Nat.{_*_}
 use native.Mathlib.Omega.{arith}
 use lib.ListN.{length}
+use Rattle.code.specs.Shape.{mates}
 use Rattle.code.specs.Repair.{weights}
 use Rattle.code.specs.Laws.{Mending}
-use Rattle.code.proofs.Bounds.{r-most}
+use Rattle.code.proofs.Mates.{mates-number-is}
 use Rattle.code.proofs.Answers.{fills-no, fills-yes}
 use Rattle.repair.specs.Mates.{mates-refusal, Rebuild-says}
 use Rattle.weights.proofs.Sixteen.{length-sixteen}
@@ -35,17 +37,28 @@ mending c = c .before .before .before .before .pre (passed c .accepted)
 weights-of-requires : tie.Need-weights-of-requires
 weights-of-requires c κs = (mending c, passed c .slot-below)
 
-cast-rebuild-columns : tie.Need-cast-rebuild-columns
-cast-rebuild-columns c = search needs
+mates-number-requires : tie.Need-mates-number-requires
+mates-number-requires c κs = mending (c .before)
+
+-- a strip for each mate
+one-each : (c : tie.After-mates-number) → let a = c .before .before .before .before .before .before .args in c .mates-number .result ≡ length (mates (a .shape) (a .slot))
+one-each c =
+    let t = c .before .before in
+    let a = t .before .before .before .before .args in
+    c .mates-number .ensures .0 ∙ mates-number-is (a .shape) (a .slot) (passed t .slot-below)
+
+cast-number : tie.Need-cast-number
+cast-number c = search needs
 
 rebuild-columns-requires : tie.Need-rebuild-columns-requires
 rebuild-columns-requires c κs =
-    let t = c .before .before .before .before in
+    let n = c .before .before in
+    let t = n .before .before in
     let a = t .before .before .before .before .args in
+    let w = n .before .weights-of .ensures in
+    let k = n .mates-number .ensures .1 in
     let M = passed t in
-    let w = c .before .before .before .weights-of .ensures in
-    let r = r-most (a .shape) (mending t .placed) in
-    (r, omega (arith, ap (λ l. length l) w, length-sixteen (weights (a .shape) (a .slot))), M .l-most, M .length-is)
+    (k, omega (arith, k, ap (λ l. length l) w, length-sixteen (weights (a .shape) (a .slot))), M .l-most, M .length-is ∙ ap (λ k. k * length (a .output .now)) (sym (one-each n)))
 
 same-length : tie.Need-same-length
 same-length c = search needs
@@ -53,11 +66,13 @@ same-length c = search needs
 returns-2 : tie.Need-returns-2
 unfolding Rebuild-says
 returns-2 c =
-    let t = c .before .before .before .before .before .before .before in
+    let n = c .before .before .before .before .before in
+    let t = n .before .before in
     let a = t .before .before .before .before .args in
-    let w = c .before .before .before .before .before .before .weights-of in
+    let w = n .before .weights-of in
     fills-yes (mates-refusal (a .refusal) (a .shape) (a .slot) (length (a .output .now)) (a .strips .now)) _ _ _ _ (zero t) refl
-    (c .before .before .rebuild-columns .ensures ∙ strip-is (a .shape) (mending t) (a .slot) (passed t .slot-below) (length (a .output .now)) (w .result) (a .strips .now) (w .ensures))
+    (c .before .before .rebuild-columns .ensures
+    ∙ strip-is (a .shape) (mending t) (a .slot) (passed t .slot-below) (length (a .output .now)) (w .result) (a .strips .now) (w .ensures) (n .mates-number .result) (one-each n))
 
 pub rebuild-with-spec : {M : Type 1} → statement M
 rebuild-with-spec =
@@ -66,7 +81,8 @@ rebuild-with-spec =
     mates-refusal-requires
     returns
     weights-of-requires
-    cast-rebuild-columns
+    mates-number-requires
+    cast-number
     rebuild-columns-requires
     same-length
     returns-2)

@@ -2,13 +2,13 @@ use borrow.Author.Needs.{needs}
 use mathlib.Core.Path.{_≡_, refl, sym, ap, _∙_}
 use native.Mathlib.Omega.{arith}
 use lib.ListN.{length}
+use Rattle.code.specs.Shape.{mates}
 use Rattle.code.specs.Repair.{weights}
 use Rattle.code.specs.Laws.{Mending}
-use Rattle.code.proofs.Bounds.{r-most}
 use Rattle.code.proofs.Answers.{answers-no, answers-yes}
 use Rattle.repair.specs.Mates.{mates-refusal, Repair-says}
 use Rattle.weights.proofs.Sixteen.{length-sixteen}
-use Rattle.weights.proofs.Weighing.{dotted-repaired}
+use Rattle.weights.proofs.Weighing.{mates-most, dotted-repaired}
 use Rattle.repair.proofs.Refusals.{Mates-passed, mates-passed}
 use Rattle.repair.proofs.repair_with.Statement.{statement}
 use Rattle.repair.proofs.repair_with.Tie as tie
@@ -36,16 +36,17 @@ mending c = c .before .before .before .pre (passed c .accepted)
 weights-of-requires : tie.Need-weights-of-requires
 weights-of-requires c κs = (mending c, passed c .slot-below)
 
-cast-rebuild-column : tie.Need-cast-rebuild-column
-cast-rebuild-column c = search needs
+-- a symbol for each mate
+one-each : (c : tie.Else1) → let a = c .before .before .before .args in length (a .mates .now) ≡ length (mates (a .shape) (a .slot))
+one-each c = omega (arith, passed c .length-is)
 
 rebuild-column-requires : tie.Need-rebuild-column-requires
 rebuild-column-requires c κs =
-    let t = c .before .before .before in
+    let t = c .before .before in
     let a = t .before .before .before .args in
-    let w = c .before .before .weights-of .ensures in
-    let r = r-most (a .shape) (mending t .placed) in
-    (omega (arith, ap (λ l. length l) w, length-sixteen (weights (a .shape) (a .slot))), omega (arith, passed t .length-is))
+    let w = c .before .weights-of .ensures in
+    let k = mates-most (a .shape) (mending t) (a .slot) (passed t .slot-below) in
+    (omega (arith, one-each t, k, ap (λ l. length l) w, length-sixteen (weights (a .shape) (a .slot))), omega arith)
 
 cast-t12 : tie.Need-cast-t12
 cast-t12 c = search needs
@@ -53,12 +54,11 @@ cast-t12 c = search needs
 returns-2 : tie.Need-returns-2
 unfolding Repair-says
 returns-2 c =
-    let t = c .before .before .before .before in
+    let t = c .before .before .before in
     let a = t .before .before .before .args in
-    let M = passed t in
-    let w = c .before .before .before .weights-of in
+    let w = c .before .before .weights-of in
     answers-yes (mates-refusal (a .refusal) (a .shape) (a .slot) 1 (a .mates .now)) _ _ (zero t) refl
-    (c .rebuild-column .ensures ∙ dotted-repaired (a .shape) (mending t) (a .slot) (M .slot-below) (w .result) (a .mates .now) (w .ensures) (omega (arith, M .length-is)))
+    (c .rebuild-column .ensures ∙ dotted-repaired (a .shape) (mending t) (a .slot) (passed t .slot-below) (w .result) (a .mates .now) (w .ensures) (one-each t))
 
 pub repair-with-spec : {M : Type 1} → statement M
 repair-with-spec =
@@ -67,7 +67,6 @@ repair-with-spec =
     mates-refusal-requires
     returns
     weights-of-requires
-    cast-rebuild-column
     rebuild-column-requires
     cast-t12
     returns-2)

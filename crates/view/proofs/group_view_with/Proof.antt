@@ -5,7 +5,7 @@ use Prim.Native.Nat.{_+_, _-_}
 use native.Mathlib.Omega.{arith}
 use lib.ListN.{take, drop}
 use borrow.Author.Tests.{eq-eqb, ne-eqb}
-use Rattle.code.specs.Shape.{size, wired, group, first}
+use Rattle.code.specs.Shape.{wired, group, first, members}
 use Rattle.code.specs.Laws.{Mending}
 use Rattle.layout.proofs.Spans.{span-within}
 use Rattle.view.proofs.Parts.{span-unwired}
@@ -46,8 +46,8 @@ first-of-requires c κs = (lawful (c .before) .0 .placed, c .group-of .ensures .
 cast-start : tie.Need-cast-start
 cast-start c = search needs
 
-size-of-requires : tie.Need-size-of-requires
-size-of-requires c κs = lawful (c .before .before) .0 .placed
+members-of-requires : tie.Need-members-of-requires
+members-of-requires c κs = (lawful (c .before .before) .0 .placed, omega (arith, c .before .group-of .ensures .1))
 
 cast-end : tie.Need-cast-end
 cast-end c = search needs
@@ -66,8 +66,10 @@ part-result-end c =
     let t = c .before .before .before in
     let s = t .before .before .before .args .shape in
     let L = lawful t in
+    let P = L .0 .placed in
     let g = c .before .before .group-of in
-    omega (arith, c .before .first-of .ensures, c .size-of .ensures, passed t .length-is, span-within s (L .0) (g .result) (first s (g .result)) (size s) (g .ensures .1) refl (span-unwired s (L .1) (L .0 .placed)))
+    let j = g .result in
+    omega (arith, c .before .first-of .ensures, c .members-of .ensures .0, passed t .length-is, span-within s P j (first s j) (members s j) (g .ensures .1) refl (span-unwired s (L .1) P j (g .ensures .1)))
 
 returns-2 : tie.Need-returns-2
 unfolding part
@@ -76,10 +78,11 @@ returns-2 c =
     let a = t .before .before .before .args in
     let s = a .shape in
     let start = c .before .before .first-of in
-    let size-is = c .before .size-of in
+    let number = c .before .members-of in
     let e = eq-eqb (view-refusal (a .refusal) s (a .slot) (a .word .now)) 0 (zero t) in
-    let m : start .result ≡ first s (group s (a .slot)) = start .ensures ∙ ap (first s) (c .before .before .before .group-of .ensures .0) in
-    let k : start .result + size-is .result - start .result ≡ size s = omega (arith, size-is .ensures) in
+    let g = c .before .before .before .group-of .ensures .0 in
+    let m : start .result ≡ first s (group s (a .slot)) = start .ensures ∙ ap (first s) g in
+    let k : start .result + number .result - start .result ≡ members s (group s (a .slot)) = omega (arith, number .ensures .0, ap (members s) g) in
     record {
       symbols = rw e (ap₂ (λ k m. take k (drop m (a .word .now))) k m);
       block = refl;
@@ -96,7 +99,7 @@ group-view-with-spec =
     group-of-requires
     first-of-requires
     cast-start
-    size-of-requires
+    members-of-requires
     cast-end
     add-end
     sub-result
