@@ -80,17 +80,29 @@ pub fn first_with(refusal: u32, shape: Shape, marks: &[u8]) -> Answer
 pub fn grade(code: Code, marks: &[u8]) -> Answer
     ensures { λ x. ⌜ Grade-says (code-refusal code) (single code) (now (marks .entry)) x ⌝ }
 {
-    grade_with(layout::code_refusal(code), layout::single(code), marks)
+    grade_with(
+        acceptance::code_refusal(code),
+        acceptance::single(code),
+        marks,
+    )
 }
 
 pub fn losses(code: Code, marks: &[u8]) -> Answer
     ensures { λ x. ⌜ Losses-says (code-refusal code) (single code) (now (marks .entry)) x ⌝ }
 {
-    losses_with(layout::code_refusal(code), layout::single(code), marks)
+    losses_with(
+        acceptance::code_refusal(code),
+        acceptance::single(code),
+        marks,
+    )
 }
 
 pub fn first_broken(code: Code, marks: &[u8]) -> Answer
     ensures { λ x. ⌜ First-says (code-refusal code) (single code) (now (marks .entry)) x ⌝ }
 {
-    first_with(layout::code_refusal(code), layout::single(code), marks)
+    first_with(
+        acceptance::code_refusal(code),
+        acceptance::single(code),
+        marks,
+    )
 }

@@ -1,6 +1,6 @@
 -- The losses of a group counted member by member, and the first broken group. Assumes nothing.
 --   losses-to s ms j i        == the losses among the first i members of group j
---   member-slot               the slot of a member
+--   member-place              the slot of a member
 --   member-yes, member-no     one member more
 --   found, found-none         the first broken group, where all before it stand
 use mathlib.Core.Path.{_≡_, refl, sym, ap, _∙_}
@@ -10,14 +10,16 @@ use mathlib.Core.List.{List}
 use Prim.Native.Nat.{ℕ, zero, suc, _+_, _*_, _-_, _≤_, _<_}
 use native.Mathlib.Omega.{arith}
 use borrow.Author.Tests.{eq-eqb, ne-eqb, le-leb, lt-leb}
+use lib.ListN.{length}
 use Rattle.algebra.specs.Sequence.{at, count}
 use Rattle.algebra.proofs.Counting.{count-yes, count-no, count-mono}
 use Rattle.code.specs.declared.Shape.{Shape}
-use Rattle.code.specs.Shape.{size, groups, whole, first, step, slot-at}
+use Rattle.code.specs.Shape.{groups, first, step, members, slot-at}
 use Rattle.code.specs.Decoding.{lost}
 use Rattle.code.specs.Erasure.{group-losses, stands, first-from, first-broken}
 use Rattle.code.specs.Laws.{Placed}
-use Rattle.code.proofs.Places.{slot-inside}
+use Rattle.code.proofs.Mates.{member-slot}
+use Rattle.code.proofs.Losing.{losses-members}
 use Rattle.layout.proofs.Numbers.{slot-is}
 
 unfoldable pub member-lost : Shape → (marks : List ℕ) → (group member : ℕ) → Bool
@@ -26,9 +28,8 @@ member-lost s ms j i = lost ms (slot-at s j i)
 abbrev pub losses-to : Shape → (marks : List ℕ) → (group members : ℕ) → ℕ
 losses-to s ms j i = count (member-lost s ms j) i
 
-pub member-slot : (s : Shape) → Placed s → whole s ≡ true → (j i f t : ℕ) → j < groups s → i < size s → f ≡ first s j → t ≡ step s
-    → f + i * t < s .n
-member-slot s P w j i f t h l e d = omega (arith, slot-is s j i f t e d, slot-inside s P w j i h l)
+pub member-place : (s : Shape) → Placed s → (j i f t : ℕ) → i < members s j → f ≡ first s j → t ≡ step s → f + i * t < s .n
+member-place s P j i f t l e d = omega (arith, slot-is s j i f t e d, member-slot s P j i l)
 
 -- one member more, in slot p
 module _ (s : Shape) (ms : List ℕ) (j i p x : ℕ) (e : p ≡ slot-at s j i) (h : x ≡ losses-to s ms j i) where
@@ -40,26 +41,26 @@ module _ (s : Shape) (ms : List ℕ) (j i p x : ℕ) (e : p ≡ slot-at s j i) (
   unfolding member-lost lost
   member-no m = h ∙ count-no (member-lost s ms j) i (ne-eqb (at ms (slot-at s j i)) 1 (λ z. m (ap (at ms) e ∙ z)))
 
-module _ (s : Shape) (ms : List ℕ) where
-  losses-is : (j : ℕ) → group-losses s j ms ≡ losses-to s ms j (size s)
-  unfolding group-losses member-lost
-  losses-is j = refl
+module _ (s : Shape) (P : Placed s) (ms : List ℕ) (long : length ms ≡ s .n) where
+  losses-is : (j : ℕ) → group-losses s j ms ≡ losses-to s ms j (members s j)
+  unfolding member-lost
+  losses-is j = losses-members s P ms long j
 
-  standing : (j : ℕ) → losses-to s ms j (size s) ≤ s .tolerance → stands s ms j ≡ true
+  standing : (j : ℕ) → losses-to s ms j (members s j) ≤ s .tolerance → stands s ms j ≡ true
   unfolding stands
   standing j l = le-leb (group-losses s j ms) (s .tolerance) (omega (arith, losses-is j))
 
   -- too many losses before the end
-  broken : (j i : ℕ) → i ≤ size s → s .tolerance < losses-to s ms j i → stands s ms j ≡ false
+  broken : (j i : ℕ) → i ≤ members s j → s .tolerance < losses-to s ms j i → stands s ms j ≡ false
   unfolding stands
-  broken j i h l = lt-leb (group-losses s j ms) (s .tolerance) (omega (arith, losses-is j, count-mono (member-lost s ms j) i (size s) h))
+  broken j i h l = lt-leb (group-losses s j ms) (s .tolerance) (omega (arith, losses-is j, count-mono (member-lost s ms j) i (members s j) h))
 
   step-from : (j : ℕ) → j < groups s → first-from (groups s - j) j s ms ≡ cond (stands s ms j) (first-from (groups s - suc j) (suc j) s ms) j
   unfolding first-from
   step-from j h = let e : groups s - j ≡ suc (groups s - suc j) = omega arith in rw e refl
 
   -- the search goes on from j where all groups before it stand
-  search-from : (j : ℕ) → j ≤ groups s → ((i : ℕ) → i < j → losses-to s ms i (size s) ≤ s .tolerance)
+  search-from : (j : ℕ) → j ≤ groups s → ((i : ℕ) → i < j → losses-to s ms i (members s i) ≤ s .tolerance)
       → first-broken s ms ≡ first-from (groups s - j) j s ms
   unfolding first-broken
   search-from zero h l = let e : groups s ≡ groups s - 0 = omega arith in ap (λ n. first-from n 0 s ms) e
@@ -67,8 +68,8 @@ module _ (s : Shape) (ms : List ℕ) where
       search-from j (omega arith) (λ i b. l i (omega arith)) ∙ step-from j (omega arith)
       ∙ ap (λ b. cond b (first-from (groups s - suc j) (suc j) s ms) j) (standing j (l j (omega arith)))
 
-  module _ (j : ℕ) (l : (i : ℕ) → i < j → losses-to s ms i (size s) ≤ s .tolerance) where
-    pub found : (i x : ℕ) → j < groups s → i ≤ size s → x ≡ losses-to s ms j i → s .tolerance < x → j ≡ first-broken s ms
+  module _ (j : ℕ) (l : (i : ℕ) → i < j → losses-to s ms i (members s i) ≤ s .tolerance) where
+    pub found : (i x : ℕ) → j < groups s → i ≤ members s j → x ≡ losses-to s ms j i → s .tolerance < x → j ≡ first-broken s ms
     found i x h b e t =
         sym (search-from j (omega arith) l ∙ step-from j h ∙ ap (λ b. cond b (first-from (groups s - suc j) (suc j) s ms) j) (broken j i b (omega arith)))
 

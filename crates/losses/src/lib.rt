@@ -1,8 +1,6 @@
 // What marks say of a stripe: its losses and its first broken group; and how many losses it stands for certain.
 ghost use mathlib.Core.Path.{_≡_};
-ghost use mathlib.Core.Bool.{true};
 ghost use lib.ListN.{length};
-ghost use Rattle.code.specs.Shape.{whole};
 ghost use Rattle.code.specs.Codeword.{guarantee};
 ghost use Rattle.code.specs.Erasure.{lost-number, first-broken};
 ghost use Rattle.code.specs.Laws.{Placed, Family};
@@ -18,10 +16,9 @@ pub fn count_lost(shape: Shape, marks: &[u8]) -> u32
 
 // The first group with more losses than it stands, 255 if none.
 pub fn first_group(shape: Shape, marks: &[u8]) -> u32
-    requires { ⌜ Placed shape × (whole shape ≡ true) × (length (now marks) ≡ shape .n) ⌝ }
+    requires { ⌜ Placed shape × (length (now marks) ≡ shape .n) ⌝ }
     ensures { λ x. ⌜ x ≡ first-broken shape (now (marks .entry)) ⌝ }
 {
-    let size = layout::size_of(shape);
     let groups = layout::groups_of(shape);
     let step = layout::step_of(shape);
     let tolerance = shape.tolerance;
@@ -31,9 +28,10 @@ pub fn first_group(shape: Shape, marks: &[u8]) -> u32
             break 255;
         }
         let first = layout::first_of(shape, j);
+        let members = layout::members_of(shape, j);
         let mut lost: u32 = 0;
         let mut i: u32 = 0;
-        while i < size {
+        while i < members {
             if marks[(first + i * step) as usize] == 1 {
                 lost += 1;
             }
@@ -51,7 +49,11 @@ pub fn guarantee_of(shape: Shape) -> u32
     requires { ⌜ Family shape × (shape .second ≡ 0) ⌝ }
     ensures { λ x. ⌜ x ≡ guarantee shape ⌝ }
 {
-    let k = shape.k + layout::missing_of(shape);
-    let blocks = (k + shape.r - 1) / shape.r;
-    shape.n - shape.k - shape.tolerance * (blocks - 1)
+    let n = shape.n;
+    let k = shape.k;
+    let r = shape.r;
+    let tolerance = shape.tolerance;
+    let whole = k + layout::missing_of(shape);
+    let blocks = (whole + r - 1) / r;
+    n - k - tolerance * (blocks - 1)
 }

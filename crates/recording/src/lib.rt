@@ -123,9 +123,9 @@ pub fn record(
     ensures { λ x. ⌜ Record-says (code-refusal code) code (single code) (now (word .entry)) (now (marks .entry)) x (now (message .entry)) (now (message .exit)) (now (work .entry)) (now (work .exit)) ⌝ }
 {
     record_with(
-        layout::code_refusal(code),
+        acceptance::code_refusal(code),
         code,
-        layout::single(code),
+        acceptance::single(code),
         word,
         marks,
         message,

@@ -20,7 +20,7 @@ first-group-requires : tie.Need-first-group-requires
 first-group-requires c κs =
     let s = c .before .before .before in
     let o = marks-passed (s .args .refusal) (s .args .shape) (s .args .marks .now) (sym (c .before .marks-refusal .ensures) ∙ c .if1 .left) in
-    (s .pre (o .0) .family .placed, s .pre (o .0) .whole-groups, o .1)
+    (s .pre (o .0) .family .placed, o .1)
 
 returns-2 : tie.Need-returns-2
 unfolding First-says

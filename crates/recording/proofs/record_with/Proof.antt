@@ -40,7 +40,7 @@ grade-of-requires : tie.Need-grade-of-requires
 grade-of-requires c κs = let H = given (c .before .before .before .before .before .before .before .before .before) in (H .shape .plain, H .marks-size)
 
 first-group-requires : tie.Need-first-group-requires
-first-group-requires c κs = let H = given (c .before .before .before .before .before .before .before .before .before .before) in (H .shape .plain .family .placed, H .shape .plain .whole-groups, H .marks-size)
+first-group-requires c κs = let H = given (c .before .before .before .before .before .before .before .before .before .before) in (H .shape .plain .family .placed, H .marks-size)
 
 outcome-of-requires : tie.Need-outcome-of-requires
 outcome-of-requires c κs =
