@@ -74,8 +74,8 @@ pub fn decode(code: Code, word: &[u8], marks: &[u8], message: &mut [u8], work: &
     ensures { λ x. ⌜ Decode-says (code-refusal code) (single code) (now (word .entry)) (now (marks .entry)) x (now (message .entry)) (now (message .exit)) (now (work .entry)) (now (work .exit)) ⌝ }
 {
     decode_with(
-        layout::code_refusal(code),
-        layout::single(code),
+        acceptance::code_refusal(code),
+        acceptance::single(code),
         word,
         marks,
         message,

@@ -27,7 +27,7 @@ use Rattle.code.specs.Basis.{exponent, degree, most-shared}
 use Rattle.code.specs.Codeword.{symbol, guarantee}
 use Rattle.code.specs.Decoding.{lost, fits}
 use Rattle.code.specs.Erasure.{lost-number}
-use Rattle.code.specs.Laws.{Placed, Plain, Decodable}
+use Rattle.code.specs.Laws.{Placed, Whole}
 use Rattle.code.specs.Promise.{Points-differ, Exponents-are}
 use Rattle.code.specs.Verdict.{Verdict, one, none}
 use Rattle.code.proofs.Bounds.{n-most, k-most, size-is}
@@ -40,18 +40,18 @@ use Rattle.code.proofs.Coefficients.{coefficients, coefficients-below, length-c
 use Rattle.interpolation.specs.Interpolated.{Passes, Interpolated}
 use Rattle.code.proofs.Fits.{Fit, fits-to, fits-of}
 use Rattle.fitting.specs.Step.{gap, gaps-zero, message-of}
-use Rattle.fitting.proofs.Values.{poly-ext}
+use Rattle.field.proofs.Values.{poly-ext}
 
-module _ (s : Shape) (L : Plain s) where
+module _ (s : Shape) (L : Whole s) where
   abbrev P : Placed s
-  P = L .family .placed
+  P = L .plain .family .placed
 
   room-is : room s ≡ s .n
   room-is = whole-room s P (L .whole-groups)
 
   -- the degree, and the exponents below it
   degree-below : degree s < s .n
-  degree-below = omega (arith, L .family .degree-most, room-is)
+  degree-below = omega (arith, L .plain .family .degree-most, room-is)
 
   exponent-most : (m : ℕ) → m < s .k → exponent s m ≤ degree s
   unfolding Exponents-are
@@ -60,7 +60,7 @@ module _ (s : Shape) (L : Plain s) where
   -- the degree is that of message symbol k - 1
   degree-is : degree s ≡ (s .k - 1) / s .r * size s + (s .k - 1) % s .r
   unfolding Exponents-are raised
-  degree-is = sym (exponents-are s L .last) ∙ exponent-raised s (L .second-none) (s .k - 1)
+  degree-is = sym (exponents-are s L .last) ∙ exponent-raised s (L .plain .second-none) (s .k - 1)
 
   gap-most : (j : ℕ) → j < (s .k - 1) / s .r → gap s j ≤ degree s
   unfolding gap
@@ -71,16 +71,16 @@ module _ (s : Shape) (L : Plain s) where
   gap-room j h = omega (arith, gap-most j h, degree-below, n-most s P)
 
   pub gaps-few : (s .k - 1) / s .r < 256
-  gaps-few = omega (arith, div-le-self (s .k - 1) (s .r), k-most s L)
+  gaps-few = omega (arith, div-le-self (s .k - 1) (s .r), k-most s (L .plain))
 
   pub exponent-room : (m : ℕ) → m < s .k → m + s .tolerance * (m / s .r) < 256
-  exponent-room m h = omega (arith, exponent-is s P (L .second-none) m, exponent-most m h, degree-below, n-most s P)
+  exponent-room m h = omega (arith, exponent-is s P (L .plain .second-none) m, exponent-most m h, degree-below, n-most s P)
 
   pub message-sum : (cs : List ℕ) → tabulate (λ m. at cs (m + s .tolerance * (m / s .r))) (s .k) ≡ message-of s cs
   unfolding message-of
   message-sum cs =
       tabulate-same 0 (λ m. at cs (m + s .tolerance * (m / s .r))) (λ m. at cs (exponent s m)) (s .k)
-      (λ m h. ap (at cs) (sym (exponent-is s P (L .second-none) m)))
+      (λ m h. ap (at cs) (sym (exponent-is s P (L .plain .second-none) m)))
 
   -- n less the guarantee is the number of coefficients
   number-is : (sure : ℕ) → sure ≡ guarantee s → s .n - sure ≡ suc (degree s)
@@ -107,26 +107,23 @@ module _ (s : Shape) (L : Plain s) where
   within ms sure e h = omega (arith, sure-most sure e)
 
 -- the polynomial found, and the messages that fit
-module _ (s : Shape) (D : Decodable s) (sure : ℕ) (e : sure ≡ guarantee s) (xs : List ℕ) (W : (p : ℕ) → p < s .n → at xs p ≡ point s p) (ws ms cs : List ℕ) (r : Bool)
+module _ (s : Shape) (L : Whole s) (stands : s .tolerance ≡ 1) (sure : ℕ) (e : sure ≡ guarantee s) (xs : List ℕ) (W : (p : ℕ) → p < s .n → at xs p ≡ point s p) (ws ms cs : List ℕ) (r : Bool)
     (I : Interpolated (s .field) (s .n) (s .n - sure) xs ws ms cs r) where
-  abbrev L : Plain s
-  L = D .plain
-
   -- a message's coefficients
   module _ (ys : List ℕ) (M : Message-is s ys) where
     value-of : (p : ℕ) → poly (s .field) (coefficients s ys) (point s p) ≡ symbol s ys p
-    value-of = coefficients-value s (P s L) (L .second-none) (L .whole-groups) (L .family .k-least) ys M
+    value-of = coefficients-value s (P s L) (L .plain .second-none) (L .whole-groups) (L .plain .family .k-least) ys M
 
     symbol-of : (m : ℕ) → m < s .k → at (coefficients s ys) (exponent s m) ≡ at ys m
-    symbol-of = coefficient-at s (P s L) (L .second-none) (L .whole-groups) (L .family .k-least) ys M
+    symbol-of = coefficient-at s (P s L) (L .plain .second-none) (L .whole-groups) (L .plain .family .k-least) ys M
 
     gap-of : (i : ℕ) → i ≤ degree s → s .r ≤ i % size s → at (coefficients s ys) i ≡ 0
-    gap-of = coefficient-gap s (P s L) (L .second-none) (L .whole-groups) (L .family .k-least) ys M
+    gap-of = coefficient-gap s (P s L) (L .plain .second-none) (L .whole-groups) (L .plain .family .k-least) ys M
 
   -- a gap is the last place of its block of exponents
   gap-last : (j : ℕ) → s .r ≤ gap s j % size s
   unfolding gap
-  gap-last j = let l : s .r < size s = omega (arith, size-is s, D .one) in omega (arith, digits-mod j l)
+  gap-last j = let l : s .r < size s = omega (arith, size-is s, stands) in omega (arith, digits-mod j l)
 
   -- a message that fits has the polynomial found
   module _ (ys : List ℕ) (f : fits s ws ms ys ≡ true) where
@@ -194,7 +191,7 @@ module _ (s : Shape) (D : Decodable s) (sure : ℕ) (e : sure ≡ guarantee s) (
 
     gap-is : (i : ℕ) → s .r ≤ i % size s → gap s (i / size s) ≡ i
     unfolding gap
-    gap-is i l = omega (arith, div-add-mod' i (size s), mod-lt i (size-least s (P s L)), size-is s, D .one)
+    gap-is i l = omega (arith, div-add-mod' i (size s), mod-lt i (size-least s (P s L)), size-is s, stands)
 
     same : (m : ℕ) → at (coefficients s (message-of s cs)) m ≡ at cs m
     same m = go (decLt m (s .n - sure))
@@ -208,7 +205,7 @@ module _ (s : Shape) (D : Decodable s) (sure : ℕ) (e : sure ≡ guarantee s) (
         go : Dec (m < s .n - sure) → at (coefficients s (message-of s cs)) m ≡ at cs m
         go (yes h) =
             let b : m ≤ degree s = omega (arith, number-is s L sure e) in
-            within-most b (place s (P s L) (L .second-none) (L .whole-groups) (L .family .k-least) m b)
+            within-most b (place s (P s L) (L .plain .second-none) (L .whole-groups) (L .plain .family .k-least) m b)
         go (no h) =
             List·getD-eq-default (coefficients s (message-of s cs)) 0 (omega (arith, length-coefficients s (message-of s cs), number-is s L sure e))
             ∙ sym (I .few m (omega arith))

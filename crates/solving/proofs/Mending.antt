@@ -4,7 +4,7 @@
 --   tried, untried           a verdict is tried, and so is 11 with the message unchanged
 use mathlib.Core.Path.{_≡_, refl, sym, ap, _∙_}
 use mathlib.Core.Bool.{Bool, true, false, cond, _||_}
-use mathlib.Core.List.{List, [], _∷_}
+use mathlib.Core.List.{List}
 use Prim.Native.Nat.{ℕ, _<_}
 use native.Mathlib.Omega.{arith}
 use lib.Dec.{T, eqb, ltb, lt→ltb}
@@ -13,9 +13,8 @@ use Rattle.algebra.specs.Sequence.{at}
 use Rattle.algebra.proofs.Booleans.{so, yes-true, or-right}
 use Rattle.algebra.proofs.Tabulate.{length-tabulate}
 use Rattle.algebra.proofs.Every.{every-at, every-intro}
-use Rattle.field.specs.Field.{q, times}
-use Rattle.field.specs.Polynomial.{dotted}
-use Rattle.field.proofs.Laws.{laws}
+use Rattle.field.specs.Field.{q}
+use Rattle.field.proofs.Products.{dotted-below}
 use Rattle.code.specs.declared.Shape.{Shape}
 use Rattle.code.specs.Shape.{group}
 use Rattle.code.specs.Decoding.{lost}
@@ -30,13 +29,6 @@ use Rattle.code.proofs.Verdicts.{verdict-same}
 use Rattle.code.proofs.Passing.{passed-at, mark-at, at-passed, at-marks}
 use Rattle.code.specs.Step.{Received}
 use Rattle.solving.specs.Step.{Tried}
-
--- a sum of products is below q
-dotted-below : (f : ℕ) (us xs : List ℕ) → dotted f us xs < q f
-unfolding dotted
-dotted-below f [] xs = omega (arith, laws f .two-below)
-dotted-below f (u ∷ us) [] = omega (arith, laws f .two-below)
-dotted-below f (u ∷ us) (x ∷ xs) = laws f .plus-below (times f u x) (dotted f us xs)
 
 module _ (s : Shape) (ws ms : List ℕ) where
   mend-below : (p : ℕ) → mend s ws ms p < q (s .field)

@@ -27,7 +27,7 @@ fn solve_mended(
     if left > sure {
         return 11;
     }
-    fitting::solve_within(shape, word, marks, message, powers, logs)
+    short_fitting::solve_within(shape, word, marks, message, powers, logs)
 }
 
 // Local repair of a copy of the kept symbols where that brings the losses within the guarantee, elimination else. All of work is left 0.
@@ -76,5 +76,5 @@ pub fn solve(shape: Shape, word: &[u8], marks: &[u8], message: &mut [u8], work: 
         return solve_broken(shape, word, marks, message, work, &powers, &logs);
     }
     copying::clear(work);
-    fitting::solve_within(shape, word, marks, message, &powers, &logs)
+    short_fitting::solve_within(shape, word, marks, message, &powers, &logs)
 }

@@ -10,27 +10,27 @@ use Rattle.fitting.proofs.fill_group.Statement.{statement}
 use Rattle.fitting.proofs.fill_group.Tie as tie
 
 abbrev Inv-loop : tie.InvT-loop
-Inv-loop shape group points₀ end i₀ points i = (i ≤ size shape) × (length points ≡ 256) × Pointed shape (group * size shape + i) points
+Inv-loop shape group points₀ end powers i₀ points i = (i ≤ size shape) × (length points ≡ 256) × Pointed shape (group * size shape + i) points
 
 abbrev μ-loop : tie.MeasureT-loop
-μ-loop shape group points₀ end i₀ points i = size shape - i
+μ-loop shape group points₀ end powers i₀ points i = size shape - i
 
 size-of-requires : tie.Need-size-of-requires Inv-loop μ-loop
-size-of-requires c κs = c .pre .0 .family .placed
+size-of-requires c κs = c .pre .1 .plain .family .placed
 
 loop-holds : tie.Need-loop-holds Inv-loop μ-loop
-loop-holds c = let s = c .before in (omega arith, s .pre .2, λ p h l. s .pre .3 p h (omega arith))
+loop-holds c = let s = c .before in (omega arith, s .pre .3, λ p h l. s .pre .4 p h (omega arith))
 
 slot-at-requires : tie.Need-slot-at-requires Inv-loop μ-loop
 slot-at-requires c κs =
-    let s = c .before .before .before in (s .pre .0 .family .placed, s .pre .1, omega (arith, c .before .before .size-of .ensures))
+    let s = c .before .before .before in (s .pre .1 .plain .family .placed, s .pre .2, omega (arith, c .before .before .size-of .ensures))
 
 cast-slot : tie.Need-cast-slot Inv-loop μ-loop
 cast-slot c = search needs
 
 point-at-requires : tie.Need-point-at-requires Inv-loop μ-loop
 point-at-requires c κs =
-    let s = c .before .before .before .before in (s .pre .0 .family .placed, s .pre .1, omega (arith, c .before .before .before .size-of .ensures))
+    let s = c .before .before .before .before in (s .pre .0, s .pre .1 .plain .family .placed, s .pre .2, omega (arith, c .before .before .before .size-of .ensures))
 
 element-write-points : tie.Need-element-write-points Inv-loop μ-loop
 element-write-points c =
@@ -38,7 +38,7 @@ element-write-points c =
     let l = c .before .before .before .loop in
     omega (
       arith,
-      slot-byte (s .args .shape) (s .pre .0 .family .placed) (s .args .group) (l .i) (s .pre .1) (omega (arith, c .before .before .before .before .size-of .ensures)),
+      slot-byte (s .args .shape) (s .pre .1 .plain .family .placed) (s .args .group) (l .i) (s .pre .2) (omega (arith, c .before .before .before .before .size-of .ensures)),
       c .before .slot-at .ensures,
     )
 
@@ -52,15 +52,15 @@ loop-again : tie.Need-loop-again Inv-loop μ-loop
 loop-again c =
     let s = c .before .before .before .before .before in
     let a = s .args in
-    let P = s .pre .0 .family .placed in
+    let P = s .pre .1 .plain .family .placed in
     let l = c .before .before .before .loop in
     let e = c .before .before .before .before .size-of .ensures in
     let x = c .before .slot-at in
     let v = c .point-at in (
       omega (arith, e),
       length-set (l .points) (x .result) (v .result) ∙ l .inv .1,
-      pointed-more (a .shape) P (a .group) (l .i) (s .pre .1) (omega (arith, e)) (x .result) (v .result) (l .points) (x .ensures) (v .ensures)
-          (omega (arith, l .inv .1, x .ensures, slot-byte (a .shape) P (a .group) (l .i) (s .pre .1) (omega (arith, e)))) (l .inv .2),
+      pointed-more (a .shape) P (a .group) (l .i) (s .pre .2) (omega (arith, e)) (x .result) (v .result) (l .points) (x .ensures) (v .ensures)
+          (omega (arith, l .inv .1, x .ensures, slot-byte (a .shape) P (a .group) (l .i) (s .pre .2) (omega (arith, e)))) (l .inv .2),
     )
 
 returns : tie.Need-returns Inv-loop μ-loop

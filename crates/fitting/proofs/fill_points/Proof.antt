@@ -8,21 +8,21 @@ use Rattle.fitting.proofs.fill_points.Statement.{statement}
 use Rattle.fitting.proofs.fill_points.Tie as tie
 
 abbrev Inv-loop : tie.InvT-loop
-Inv-loop shape points₀ end group₀ points group = (group ≤ groups shape) × (length points ≡ 256) × Pointed shape (group * size shape) points
+Inv-loop shape points₀ end powers group₀ points group = (group ≤ groups shape) × (length points ≡ 256) × Pointed shape (group * size shape) points
 
 abbrev μ-loop : tie.MeasureT-loop
-μ-loop shape points₀ end group₀ points group = groups shape - group
+μ-loop shape points₀ end powers group₀ points group = groups shape - group
 
 groups-of-requires : tie.Need-groups-of-requires Inv-loop μ-loop
-groups-of-requires c κs = c .pre .0 .family .placed
+groups-of-requires c κs = c .pre .1 .plain .family .placed
 
 loop-holds : tie.Need-loop-holds Inv-loop μ-loop
-loop-holds c = (omega arith, c .before .pre .1, λ p h l. absurd (omega arith))
+loop-holds c = (omega arith, c .before .pre .2, λ p h l. absurd (omega arith))
 
 fill-group-requires : tie.Need-fill-group-requires Inv-loop μ-loop
 fill-group-requires c κs =
     let l = c .before .before .loop in
-    (c .before .before .before .before .pre .0, omega (arith, c .before .before .before .groups-of .ensures), l .inv .1, l .inv .2)
+    (c .before .before .before .before .pre .0, c .before .before .before .before .pre .1, omega (arith, c .before .before .before .groups-of .ensures), l .inv .1, l .inv .2)
 
 add-group : tie.Need-add-group Inv-loop μ-loop
 add-group c = omega arith

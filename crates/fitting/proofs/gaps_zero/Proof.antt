@@ -25,7 +25,7 @@ abbrev μ-loop : tie.MeasureT-loop
 μ-loop coefs g r k gaps j₀ j = gaps - j
 
 size-of-requires : tie.Need-size-of-requires Inv-loop μ-loop
-size-of-requires c κs = c .pre .family .placed
+size-of-requires c κs = c .pre .plain .family .placed
 
 cast-size : tie.Need-cast-size Inv-loop μ-loop
 cast-size c = search needs
@@ -37,10 +37,10 @@ cast-k : tie.Need-cast-k Inv-loop μ-loop
 cast-k c = search needs
 
 sub-gaps : tie.Need-sub-gaps Inv-loop μ-loop
-sub-gaps c = omega (arith, c .before .before .before .pre .family .k-least)
+sub-gaps c = omega (arith, c .before .before .before .pre .plain .family .k-least)
 
 div-gaps : tie.Need-div-gaps Inv-loop μ-loop
-div-gaps c = omega (arith, c .before .before .before .pre .family .placed .r-least)
+div-gaps c = omega (arith, c .before .before .before .pre .plain .family .placed .r-least)
 
 loop-holds : tie.Need-loop-holds Inv-loop μ-loop
 unfolding every

@@ -27,7 +27,7 @@ loop-holds : tie.Need-loop-holds Inv-loop μ-loop
 loop-holds c = let a = c .before .before .before .args in (omega arith, filled-none (λ i. at (a .coefs .now) (i + a .shape .tolerance * (i / a .shape .r))) (a .message .now))
 
 div-message : tie.Need-div-message Inv-loop μ-loop
-div-message c = omega (arith, c .before .before .before .before .before .pre .0 .family .placed .r-least)
+div-message c = omega (arith, c .before .before .before .before .before .pre .0 .plain .family .placed .r-least)
 
 mul-message : tie.Need-mul-message Inv-loop μ-loop
 mul-message c = let s = c .before .before .before .before .before in omega (arith, exponent-room (s .args .shape) (s .pre .0) (c .before .loop .m) (c .loop-test .taken))

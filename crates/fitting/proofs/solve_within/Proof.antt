@@ -21,7 +21,7 @@ fill-points-requires : tie.Need-fill-points-requires
 fill-points-requires c κs = search needs
 
 sub-interpolate : tie.Need-sub-interpolate
-sub-interpolate c = let s = c .before .before .before .before .before .before .before in let g = c .before .before .guarantee-of in sure-most (s .args .shape) (s .pre .0 .plain) (g .result) (g .ensures)
+sub-interpolate c = let s = c .before .before .before .before .before .before .before in let g = c .before .before .guarantee-of in sure-most (s .args .shape) (s .pre .0) (g .result) (g .ensures)
 
 interpolate-requires : tie.Need-interpolate-requires
 interpolate-requires c κs =
@@ -31,14 +31,14 @@ interpolate-requires c κs =
     let t = c .before .before .fill-points in
     let W = pointed-all (a .shape) (s .pre .0 .plain .family .placed) (t .last .1 .0) (t .ensures) in (
       n-most (a .shape) (s .pre .0 .plain .family .placed),
-      s .pre .1 .word,
-      s .pre .1 .marks,
-      points-below (a .shape) (s .pre .0 .plain) (t .last .1 .0) W,
-      points-differ (a .shape) (s .pre .0 .plain) (t .last .1 .0) W,
-      kept-symbol (a .shape) (a .word .now) (a .marks .now) (s .pre .1 .kept),
-      within (a .shape) (s .pre .0 .plain) (a .marks .now) (g .result) (g .ensures) (s .pre .3),
-      s .pre .4,
+      s .pre .2 .word,
+      s .pre .2 .marks,
+      points-below (a .shape) (s .pre .0) (t .last .1 .0) W,
+      points-differ (a .shape) (s .pre .0) (t .last .1 .0) W,
+      kept-symbol (a .shape) (a .word .now) (a .marks .now) (s .pre .2 .kept),
+      within (a .shape) (s .pre .0) (a .marks .now) (g .result) (g .ensures) (s .pre .4),
       s .pre .5,
+      s .pre .6,
     )
 
 returns : tie.Need-returns
@@ -48,7 +48,7 @@ returns c =
     let g = c .before .before .before .before .before .before .guarantee-of in
     let t = c .before .before .before .before .fill-points in
     let i = c .before .interpolate in
-    verdict-missed (a .shape) (s .pre .0) (g .result) (g .ensures) (t .last .1 .0) (pointed-all (a .shape) (s .pre .0 .plain .family .placed) (t .last .1 .0) (t .ensures)) (a .word .now) (a .marks .now) (i .last .1 .1 .1 .1 .1 .1 .0) (i .result) (i .ensures) (a .message .now)
+    verdict-missed (a .shape) (s .pre .0) (s .pre .1) (g .result) (g .ensures) (t .last .1 .0) (pointed-all (a .shape) (s .pre .0 .plain .family .placed) (t .last .1 .0) (t .ensures)) (a .word .now) (a .marks .now) (i .last .1 .1 .1 .1 .1 .1 .0) (i .result) (i .ensures) (a .message .now)
     (not-true (i .result) (c .if1 .taken))
 
 gaps-zero-requires : tie.Need-gaps-zero-requires
@@ -61,7 +61,7 @@ returns-2 c =
     let g = c .before .before .before .before .before .before .before .before .before .guarantee-of in
     let t = c .before .before .before .before .before .before .before .fill-points in
     let i = c .before .before .before .before .interpolate in
-    verdict-foreign (a .shape) (s .pre .0) (g .result) (g .ensures) (t .last .1 .0) (pointed-all (a .shape) (s .pre .0 .plain .family .placed) (t .last .1 .0) (t .ensures)) (a .word .now) (a .marks .now) (i .last .1 .1 .1 .1 .1 .1 .0) (i .result) (i .ensures) (a .message .now)
+    verdict-foreign (a .shape) (s .pre .0) (s .pre .1) (g .result) (g .ensures) (t .last .1 .0) (pointed-all (a .shape) (s .pre .0 .plain .family .placed) (t .last .1 .0) (t .ensures)) (a .word .now) (a .marks .now) (i .last .1 .1 .1 .1 .1 .1 .0) (i .result) (i .ensures) (a .message .now)
     (sym (c .before .gaps-zero .ensures) ∙ not-true (c .before .gaps-zero .result) (c .if2 .taken))
 
 read-message-requires : tie.Need-read-message-requires
@@ -79,7 +79,7 @@ returns-3 c =
     let i = c .before .before .before .before .before .before .before .before .before .interpolate in
     let z = c .before .before .before .before .before .before .gaps-zero in
     let m = c .before .before .read-message in
-    verdict-read (a .shape) (s .pre .0) (g .result) (g .ensures) (t .last .1 .0) (pointed-all (a .shape) (s .pre .0 .plain .family .placed) (t .last .1 .0) (t .ensures)) (a .word .now) (a .marks .now) (i .last .1 .1 .1 .1 .1 .1 .0) (i .result) (i .ensures) (not-false (i .result) (c .before .before .before .before .before .before .before .before .if1 .left))
+    verdict-read (a .shape) (s .pre .0) (s .pre .1) (g .result) (g .ensures) (t .last .1 .0) (pointed-all (a .shape) (s .pre .0 .plain .family .placed) (t .last .1 .0) (t .ensures)) (a .word .now) (a .marks .now) (i .last .1 .1 .1 .1 .1 .1 .0) (i .result) (i .ensures) (not-false (i .result) (c .before .before .before .before .before .before .before .before .if1 .left))
     (sym (z .ensures) ∙ not-false (z .result) (c .before .before .before .before .before .if2 .left)) (a .message .now) (m .last .1 .1 .0) (m .ensures)
 
 pub solve-within-spec : {M : Type 1} → statement M

@@ -1,0 +1,6 @@
+pub mod Mother
+pub mod Basing
+pub mod Division
+pub mod Quotient
+pub mod Shortening
+pub mod Lengthening

@@ -1,0 +1,2 @@
+pub mod Mother
+pub mod Step
