@@ -26,8 +26,8 @@ pub fn put_code(code: Code, numbers: &mut [u32])
 pub fn weights_into(code: Code, slot: u32, weights: &mut [u8]) -> u32
     ensures { λ x. ⌜ Weights-fill code slot x (now (weights .entry)) (now (weights .exit)) ⌝ }
 {
-    let asked = questions::ask(layout::code_refusal(code), weights.len() == 16, 5);
-    let found = weights::weights_with(asked, layout::single(code), slot);
+    let asked = questions::ask(acceptance::code_refusal(code), weights.len() == 16, 5);
+    let found = weights::weights_with(asked, acceptance::single(code), slot);
     let refused = found.refusal;
     if refused != 0 {
         return refused;

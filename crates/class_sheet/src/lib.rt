@@ -25,22 +25,53 @@ fn refuse(text: &mut [u8], input: &[u8], i: usize, reason: &[u8]) -> Written {
     Written { status: 1, len }
 }
 
-// Puts the sentence of a refusal of questions 2, 3 and 4.
-fn refuse_code(text: &mut [u8], input: &[u8], refusal: u32) -> Written {
+// Whether the groups are whole, of a code whose r and n are accepted: just those could be wired, with one message symbol.
+fn is_whole(code: Code) -> bool {
+    let wired = Code {
+        field: code.field,
+        r: code.r,
+        n: code.n,
+        k: 1,
+        wiring: 1,
+    };
+    acceptance::code_refusal(wired) == 0
+}
+
+// Puts the sentence of a refusal of question 4.
+fn refuse_dimension(text: &mut [u8], input: &[u8], code: Code) -> Written {
+    if is_whole(code) {
+        return refuse(
+            text,
+            input,
+            2,
+            b"k is from 1 to r * n / (r + 1) (refusal 4)",
+        );
+    }
+    refuse(
+        text,
+        input,
+        2,
+        b"k is from s - 1 to n - m, for m groups of which the last has s slots (refusal 4)",
+    )
+}
+
+// Puts the sentence of a code's refusal, by question 2, 3, 4 or 17.
+fn refuse_code(text: &mut [u8], input: &[u8], code: Code, refusal: u32) -> Written {
     match refusal {
         2 => refuse(text, input, 0, b"r is 1, 2, 3, 5 or 11 (refusal 2)"),
         3 => refuse(
             text,
             input,
             1,
-            b"n is a multiple of r + 1, from r + 1 to 12 (refusal 3)",
+            b"n is from 2 to 12, and n mod (r + 1) is not 1 (refusal 3)",
         ),
-        _ => refuse(
+        17 => refuse(
             text,
             input,
-            2,
-            b"k is from 1 to r * n / (r + 1) (refusal 4)",
+            1,
+            b"wired groups are whole: n is a multiple of r + 1 (refusal 17)",
         ),
+        _ => refuse_dimension(text, input, code),
     }
 }
 
@@ -104,14 +135,14 @@ fn put_numbers(text: &mut [u8], input: &[u8], wiring: u32, numbers: &[u8], count
     requires { ⌜ (3 ≤ count) × (length (now numbers) ≡ 16) ⌝ }
 {
     let code = code_of(numbers, wiring);
-    let refusal = layout::code_refusal(code);
+    let refusal = acceptance::code_refusal(code);
     if refusal != 0 {
-        return refuse_code(text, input, refusal);
+        return refuse_code(text, input, code, refusal);
     }
     if count > 16 {
         return refuse_length(text, count - 3, code.k);
     }
-    put_message(text, input, layout::single(code), &numbers[3..count])
+    put_message(text, input, acceptance::single(code), &numbers[3..count])
 }
 
 // Writes the sheet of the numbers of an input in front of the text, or the sentence on what is wrong with them.

@@ -17,6 +17,12 @@ fn put_named(text: &mut [u8], at: usize, name: &[u8], n: u32) -> usize {
     put_spaced(text, next, n)
 }
 
+// A name, and the exponent that it is raised to.
+fn put_power(text: &mut [u8], at: usize, name: &[u8], e: u32) -> usize {
+    let next = put(text, at, name);
+    put_number(text, next, e)
+}
+
 // The twelve powers of 2.
 fn put_powers(text: &mut [u8], at: usize) -> usize {
     let mut next = at;
@@ -28,15 +34,16 @@ fn put_powers(text: &mut [u8], at: usize) -> usize {
     next
 }
 
-// The points of a group.
+// The points of a group's slots.
 fn put_points(text: &mut [u8], at: usize, shape: Shape, group: u32) -> usize
     requires { ⌜ Placed shape × (group < groups shape) ⌝ }
 {
-    let size = layout::size_of(shape);
+    let powers = tables::power_table();
+    let members = layout::members_of(shape, group);
     let mut next = at;
     let mut i: u32 = 0;
-    while i < size {
-        next = put_spaced(text, next, wide(layout::point_at(shape, group, i)));
+    while i < members {
+        next = put_spaced(text, next, wide(layout::point_at(shape, group, i, &powers)));
         i += 1;
     }
     next
@@ -46,10 +53,10 @@ fn put_points(text: &mut [u8], at: usize, shape: Shape, group: u32) -> usize
 fn put_group_slots(text: &mut [u8], at: usize, shape: Shape, group: u32) -> usize
     requires { ⌜ Placed shape × (group < groups shape) ⌝ }
 {
-    let size = layout::size_of(shape);
+    let members = layout::members_of(shape, group);
     let mut next = at;
     let mut i: u32 = 0;
-    while i < size {
+    while i < members {
         next = put_spaced(text, next, layout::slot_at(shape, group, i));
         i += 1;
     }
@@ -71,10 +78,11 @@ fn put_spread(text: &mut [u8], at: usize, shape: Shape, group: u32) -> usize
 fn put_slot_points(text: &mut [u8], at: usize, shape: Shape) -> usize
     requires { ⌜ Placed shape ⌝ }
 {
+    let powers = tables::power_table();
     let mut next = at;
     let mut slot: u32 = 0;
     while slot < shape.n {
-        next = put_spaced(text, next, wide(layout::point_of(shape, slot)));
+        next = put_spaced(text, next, wide(layout::point_of(shape, slot, &powers)));
         slot += 1;
     }
     next
@@ -92,6 +100,32 @@ fn put_along(text: &mut [u8], at: usize, shape: Shape) -> usize
     end_line(text, next)
 }
 
+// The missing points.
+fn put_missing_points(text: &mut [u8], at: usize, shape: Shape) -> usize
+    requires { ⌜ Placed shape ⌝ }
+{
+    let powers = tables::power_table();
+    let missing = layout::missing_of(shape);
+    let mut next = at;
+    let mut i: u32 = 0;
+    while i < missing {
+        next = put_spaced(text, next, wide(layout::missing_point(shape, i, &powers)));
+        i += 1;
+    }
+    next
+}
+
+// The word missing and the missing points, of a short group alone.
+fn put_missing(text: &mut [u8], at: usize, shape: Shape, group: u32) -> usize
+    requires { ⌜ Placed shape × (group < groups shape) ⌝ }
+{
+    if layout::members_of(shape, group) == layout::size_of(shape) {
+        return at;
+    }
+    let next = put(text, at, b" missing");
+    put_missing_points(text, next, shape)
+}
+
 // The line of a group.
 fn put_group(text: &mut [u8], at: usize, shape: Shape, group: u32) -> usize
     requires { ⌜ Placed shape × (group < groups shape) ⌝ }
@@ -100,6 +134,7 @@ fn put_group(text: &mut [u8], at: usize, shape: Shape, group: u32) -> usize
     next = put_spread(text, next, shape, group);
     next = put(text, next, b" points");
     next = put_points(text, next, shape, group);
+    next = put_missing(text, next, shape, group);
     end_line(text, next)
 }
 
@@ -117,28 +152,86 @@ fn put_groups(text: &mut [u8], at: usize, shape: Shape) -> usize
     next
 }
 
-// The exponent of message symbol m.
+// The factors of h, one for each missing point.
+fn put_factors(text: &mut [u8], at: usize, shape: Shape) -> usize
+    requires { ⌜ Placed shape ⌝ }
+{
+    let powers = tables::power_table();
+    let missing = layout::missing_of(shape);
+    let mut next = at;
+    let mut i: u32 = 0;
+    while i < missing {
+        next = put(text, next, b" (x -");
+        next = put_spaced(text, next, wide(layout::missing_point(shape, i, &powers)));
+        next = put(text, next, b")");
+        i += 1;
+    }
+    next
+}
+
+// The lines of g and h, of a code whose last group is short alone.
+fn put_g_and_h(text: &mut [u8], at: usize, shape: Shape) -> usize
+    requires { ⌜ Placed shape ⌝ }
+{
+    if layout::missing_of(shape) == 0 {
+        return at;
+    }
+    let powers = tables::power_table();
+    let mut next = put_power(text, at, b"g x^", layout::size_of(shape));
+    next = put(text, next, b" -");
+    next = put_spaced(text, next, wide(layout::constant_of(shape, &powers)));
+    next = put(text, next, b"\nh");
+    next = put_factors(text, next, shape);
+    end_line(text, next)
+}
+
+// The exponent of message symbol m of a code of whole groups.
 fn exponent(shape: Shape, m: u32) -> u32
     requires { ⌜ Placed shape × (m < 16) ⌝ }
 {
     m + shape.tolerance * (m / shape.r)
 }
 
-// A term: the symbol, and x to the exponent.
-fn put_term(text: &mut [u8], at: usize, symbol: u8, e: u32) -> usize {
-    let mut next = put_spaced(text, at, symbol as u32);
-    next = put(text, next, b" x^");
-    put_number(text, next, e)
+// The exponent of g where message symbol m of a code whose last group is short goes with a power of it.
+fn good_exponent(r: u32, m: u32) -> u32
+    requires { ⌜ (1 ≤ r) × (m < 16) ⌝ }
+{
+    1 + m / r
+}
+
+// What message symbol m of a code whose last group is short goes with: for the first filled - r symbols a power of g and one of x, for the
+// others h and a power of x. As many as filled are the message symbols and the missing points together.
+fn put_short_basis(text: &mut [u8], at: usize, r: u32, filled: u32, m: u32) -> usize
+    requires { ⌜ (1 ≤ r) × (r ≤ 16) × (m < 16) ⌝ }
+{
+    if m + r < filled {
+        let next = put_power(text, at, b" g^", good_exponent(r, m));
+        return put_power(text, next, b" x^", m % r);
+    }
+    let next = put(text, at, b" h");
+    put_power(text, next, b" x^", m + r - filled)
+}
+
+// What message symbol m goes with.
+fn put_basis(text: &mut [u8], at: usize, shape: Shape, filled: u32, m: u32) -> usize
+    requires { ⌜ Placed shape × (m < 16) ⌝ }
+{
+    if layout::missing_of(shape) == 0 {
+        return put_power(text, at, b" x^", exponent(shape, m));
+    }
+    put_short_basis(text, at, shape.r, filled, m)
 }
 
 // The encoding polynomial.
 fn put_polynomial(text: &mut [u8], at: usize, shape: Shape, message: &[u8]) -> usize
     requires { ⌜ Placed shape × (length (now message) ≤ 16) ⌝ }
 {
+    let filled = message.len() as u32 + layout::missing_of(shape);
     let mut next = at;
     let mut m: usize = 0;
     while m < message.len() {
-        next = put_term(text, next, message[m], exponent(shape, m as u32));
+        next = put_spaced(text, next, wide(message[m]));
+        next = put_basis(text, next, shape, filled, m as u32);
         m += 1;
     }
     next
@@ -148,9 +241,10 @@ fn put_polynomial(text: &mut [u8], at: usize, shape: Shape, message: &[u8]) -> u
 fn put_mates(text: &mut [u8], at: usize, shape: Shape, slot: u32) -> usize
     requires { ⌜ Mending shape × (slot < shape .n) ⌝ }
 {
+    let number = layout::mates_number(shape, slot);
     let mut next = at;
     let mut i: u32 = 0;
-    while i < shape.r {
+    while i < number {
         next = put_spaced(text, next, layout::mate_of(shape, slot, i));
         i += 1;
     }
@@ -163,7 +257,8 @@ fn put_weights(text: &mut [u8], at: usize, shape: Shape, slot: u32) -> usize
 {
     let answer = weights::weights_with(0, shape, slot);
     let weights = answer.weights;
-    put_all(text, at, console::part(&weights, 0, shape.r as usize))
+    let number = layout::mates_number(shape, slot) as usize;
+    put_all(text, at, console::part(&weights, 0, number))
 }
 
 // The line of a slot.
@@ -191,7 +286,7 @@ fn put_slots(text: &mut [u8], at: usize, shape: Shape) -> usize
     next
 }
 
-// The lines of the powers, of the groups and of the points.
+// The lines of the powers, of the groups, of the points, and of g and h.
 fn put_layout(text: &mut [u8], shape: Shape) -> usize
     requires { ⌜ Placed shape ⌝ }
 {
@@ -199,7 +294,8 @@ fn put_layout(text: &mut [u8], shape: Shape) -> usize
     next = put_powers(text, next);
     next = end_line(text, next);
     next = put_groups(text, next, shape);
-    put_along(text, next, shape)
+    next = put_along(text, next, shape);
+    put_g_and_h(text, next, shape)
 }
 
 // The lines of a message's encoding polynomial and of its codeword.

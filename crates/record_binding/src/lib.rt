@@ -39,8 +39,8 @@ pub fn record_into(
 ) -> u32
     ensures { λ x. ⌜ Record-fills code (now (word .entry)) (now (marks .entry)) x (now (message .entry)) (now (message .exit)) (now (work .entry)) (now (work .exit)) (now (numbers .entry)) (now (numbers .exit)) ⌝ }
 {
-    let asked = questions::ask(layout::code_refusal(code), numbers.len() == 10, 5);
-    let shape = layout::single(code);
+    let asked = questions::ask(acceptance::code_refusal(code), numbers.len() == 10, 5);
+    let shape = acceptance::single(code);
     let drawn = recording::record_with(asked, code, shape, word, marks, message, work);
     let refused = drawn.refusal;
     if refused != 0 {

@@ -28,7 +28,7 @@ use Rattle.code.specs.Erasure.{kept-below}
 use Rattle.code.specs.declared.Code.{Code}
 use Rattle.code.proofs.Questions.{asked, ask-yes, or-ask-on, or-ask-passed}
 use Rattle.code.proofs.Answers.{fills-no, fills-yes}
-use Rattle.code.proofs.Accepted.{good-of, plain-of}
+use Rattle.code.proofs.Accepted.{wiring-of, plain-of}
 use Rattle.code.proofs.Bounds.{r-most, n-most, k-most}
 use Rattle.sheet.specs.declared.Sheet.{Sheet}
 use Rattle.words.specs.Word.{word-at, kind, end-word, slot-fits, word-symbol, word-mark}
@@ -105,7 +105,7 @@ small-code c e =
     let s = single c in
     let L = plain-of c e in
     let P = L .family .placed in
-    (omega (arith, good-of c e .wiring-most), omega (arith, P .field-most), omega (arith, r-most s P), omega (arith, n-most s P), omega (arith, k-most s L))
+    (omega (arith, wiring-of c e), omega (arith, P .field-most), omega (arith, r-most s P), omega (arith, n-most s P), omega (arith, k-most s L))
 
 -- what the reader leaves behind
 module _ (s a d : List ℕ) (x : Sheet) where

@@ -95,7 +95,7 @@ fn sheet_refusal(sheet: &[u8]) -> u32
         return c;
     }
     let code = words::word_code(w);
-    let d = layout::code_refusal(code);
+    let d = acceptance::code_refusal(code);
     if d != 0 {
         return d;
     }
@@ -147,7 +147,7 @@ fn write_refusal(code: Code, word: &[u8], marks: &[u8], bytes: usize) -> u32
     ensures { λ x. ⌜ x ≡ write-refusal code (now (word .entry)) (now (marks .entry)) bytes ⌝ }
 {
     let n = code.n as usize;
-    let a = questions::ask(layout::code_refusal(code), word.len() == n, 5);
+    let a = questions::ask(acceptance::code_refusal(code), word.len() == n, 5);
     let b = questions::ask(a, marks.len() == n, 5);
     let c = questions::ask(b, bytes == 4 * (n + 2), 5);
     let d = questions::ask(c, questions::all_below(marks, 2), 8);
@@ -156,7 +156,7 @@ fn write_refusal(code: Code, word: &[u8], marks: &[u8], bytes: usize) -> u32
     }
     questions::ask(
         d,
-        questions::kept_below(layout::single(code), word, marks),
+        questions::kept_below(acceptance::single(code), word, marks),
         6,
     )
 }

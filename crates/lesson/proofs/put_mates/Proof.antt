@@ -3,15 +3,18 @@ use mathlib.Core.Path.{_≡_, refl}
 use Prim.Native.Nat.{_-_}
 use native.Mathlib.Omega.{arith}
 use lib.ListN.{length}
-use Rattle.code.proofs.Mates.{mates-number}
+use Rattle.code.proofs.Mates.{mates-number-is}
 use Rattle.lesson.proofs.put_mates.Statement.{statement}
 use Rattle.lesson.proofs.put_mates.Tie as tie
 
 abbrev Inv-loop : tie.InvT-loop
-Inv-loop text₀ at shape slot next₀ i₀ text next i = length text ≡ length text₀
+Inv-loop text₀ at shape slot number next₀ i₀ text next i = length text ≡ length text₀
 
 abbrev μ-loop : tie.MeasureT-loop
-μ-loop text₀ at shape slot next₀ i₀ text next i = shape .r - i
+μ-loop text₀ at shape slot number next₀ i₀ text next i = number - i
+
+mates-number-requires : tie.Need-mates-number-requires Inv-loop μ-loop
+mates-number-requires c κs = search needs
 
 loop-holds : tie.Need-loop-holds Inv-loop μ-loop
 loop-holds c = refl
@@ -19,8 +22,7 @@ loop-holds c = refl
 mate-of-requires : tie.Need-mate-of-requires Inv-loop μ-loop
 mate-of-requires c κs =
     let s = c .before .before .before .before .before in
-    let M = s .pre .0 in
-    (M .placed, s .pre .1, omega (arith, mates-number (s .args .shape) M (s .args .slot) (s .pre .1)))
+    (s .pre .0 .placed, s .pre .1, omega (arith, mates-number-is (s .args .shape) (s .args .slot) (s .pre .1)))
 
 put-spaced-requires : tie.Need-put-spaced-requires Inv-loop μ-loop
 put-spaced-requires c κs = search needs
@@ -46,6 +48,7 @@ put-mates-spec =
     (tie.spec
     Inv-loop
     μ-loop
+    mates-number-requires
     loop-holds
     mate-of-requires
     put-spaced-requires

@@ -3,29 +3,42 @@ use mathlib.Core.Path.{_≡_, refl}
 use Prim.Native.Nat.{_-_}
 use native.Mathlib.Omega.{arith}
 use lib.ListN.{length}
+use Rattle.code.proofs.Places.{missing-less}
 use Rattle.lesson.proofs.put_polynomial.Statement.{statement}
 use Rattle.lesson.proofs.put_polynomial.Tie as tie
 
 abbrev Inv-loop : tie.InvT-loop
-Inv-loop text₀ at shape message next₀ m₀ text next m = length text ≡ length text₀
+Inv-loop text₀ at shape message filled next₀ m₀ text next m = length text ≡ length text₀
 
 abbrev μ-loop : tie.MeasureT-loop
-μ-loop text₀ at shape message next₀ m₀ text next m = length message - m
+μ-loop text₀ at shape message filled next₀ m₀ text next m = length message - m
+
+cast-filled : tie.Need-cast-filled Inv-loop μ-loop
+cast-filled c = omega arith
+
+missing-of-requires : tie.Need-missing-of-requires Inv-loop μ-loop
+missing-of-requires c κs = search needs
+
+add-filled : tie.Need-add-filled Inv-loop μ-loop
+add-filled c = let s = c .before .before .before in omega (arith, missing-less (s .args .shape) (s .pre .0), s .pre .0 .size-most)
 
 loop-holds : tie.Need-loop-holds Inv-loop μ-loop
 loop-holds c = refl
 
-shared-slice-read-put-term : tie.Need-shared-slice-read-put-term Inv-loop μ-loop
-shared-slice-read-put-term c = omega arith
+shared-slice-read-wide : tie.Need-shared-slice-read-wide Inv-loop μ-loop
+shared-slice-read-wide c = omega arith
 
-cast-exponent : tie.Need-cast-exponent Inv-loop μ-loop
-cast-exponent c = omega arith
+wide-requires : tie.Need-wide-requires Inv-loop μ-loop
+wide-requires c κs = search needs
 
-exponent-requires : tie.Need-exponent-requires Inv-loop μ-loop
-exponent-requires c κs = search needs
+put-spaced-requires : tie.Need-put-spaced-requires Inv-loop μ-loop
+put-spaced-requires c κs = search needs
 
-put-term-requires : tie.Need-put-term-requires Inv-loop μ-loop
-put-term-requires c κs = search needs
+cast-put-basis : tie.Need-cast-put-basis Inv-loop μ-loop
+cast-put-basis c = omega arith
+
+put-basis-requires : tie.Need-put-basis-requires Inv-loop μ-loop
+put-basis-requires c κs = search needs
 
 add-m : tie.Need-add-m Inv-loop μ-loop
 add-m c = omega arith
@@ -48,11 +61,15 @@ put-polynomial-spec =
     (tie.spec
     Inv-loop
     μ-loop
+    cast-filled
+    missing-of-requires
+    add-filled
     loop-holds
-    shared-slice-read-put-term
-    cast-exponent
-    exponent-requires
-    put-term-requires
+    shared-slice-read-wide
+    wide-requires
+    put-spaced-requires
+    cast-put-basis
+    put-basis-requires
     add-m
     loop-less
     loop-again

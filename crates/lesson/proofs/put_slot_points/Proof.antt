@@ -7,10 +7,13 @@ use Rattle.lesson.proofs.put_slot_points.Statement.{statement}
 use Rattle.lesson.proofs.put_slot_points.Tie as tie
 
 abbrev Inv-loop : tie.InvT-loop
-Inv-loop text₀ at shape next₀ slot₀ text next slot = length text ≡ length text₀
+Inv-loop text₀ at shape powers next₀ slot₀ text next slot = length text ≡ length text₀
 
 abbrev μ-loop : tie.MeasureT-loop
-μ-loop text₀ at shape next₀ slot₀ text next slot = shape .n - slot
+μ-loop text₀ at shape powers next₀ slot₀ text next slot = shape .n - slot
+
+power-table-requires : tie.Need-power-table-requires Inv-loop μ-loop
+power-table-requires c κs = search needs
 
 loop-holds : tie.Need-loop-holds Inv-loop μ-loop
 loop-holds c = refl
@@ -45,6 +48,7 @@ put-slot-points-spec =
     (tie.spec
     Inv-loop
     μ-loop
+    power-table-requires
     loop-holds
     point-of-requires
     wide-requires

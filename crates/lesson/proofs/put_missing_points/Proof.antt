@@ -1,0 +1,64 @@
+use borrow.Author.Needs.{needs}
+use mathlib.Core.Path.{_≡_, refl}
+use Prim.Native.Nat.{_-_}
+use native.Mathlib.Omega.{arith}
+use lib.ListN.{length}
+use Rattle.lesson.proofs.put_missing_points.Statement.{statement}
+use Rattle.lesson.proofs.put_missing_points.Tie as tie
+
+abbrev Inv-loop : tie.InvT-loop
+Inv-loop text₀ at shape powers missing next₀ i₀ text next i = length text ≡ length text₀
+
+abbrev μ-loop : tie.MeasureT-loop
+μ-loop text₀ at shape powers missing next₀ i₀ text next i = missing - i
+
+power-table-requires : tie.Need-power-table-requires Inv-loop μ-loop
+power-table-requires c κs = search needs
+
+missing-of-requires : tie.Need-missing-of-requires Inv-loop μ-loop
+missing-of-requires c κs = search needs
+
+loop-holds : tie.Need-loop-holds Inv-loop μ-loop
+loop-holds c = refl
+
+missing-point-requires : tie.Need-missing-point-requires Inv-loop μ-loop
+missing-point-requires c κs = search needs
+
+wide-requires : tie.Need-wide-requires Inv-loop μ-loop
+wide-requires c κs = search needs
+
+put-spaced-requires : tie.Need-put-spaced-requires Inv-loop μ-loop
+put-spaced-requires c κs = search needs
+
+add-i : tie.Need-add-i Inv-loop μ-loop
+add-i c = omega arith
+
+loop-less : tie.Need-loop-less Inv-loop μ-loop
+loop-less c = omega arith
+
+loop-again : tie.Need-loop-again Inv-loop μ-loop
+loop-again c = search needs
+
+same-length : tie.Need-same-length Inv-loop μ-loop
+same-length c = search needs
+
+returns : tie.Need-returns Inv-loop μ-loop
+returns c = search needs
+
+pub put-missing-points-spec : {M : Type 1} → statement M
+put-missing-points-spec =
+    tie.close
+    (tie.spec
+    Inv-loop
+    μ-loop
+    power-table-requires
+    missing-of-requires
+    loop-holds
+    missing-point-requires
+    wide-requires
+    put-spaced-requires
+    add-i
+    loop-less
+    loop-again
+    same-length
+    returns)
