@@ -59,6 +59,7 @@ fn corner(code: Code, used: usize) {
 }
 
 // r 1; one group only; k 1; a large r; the longest code, with the guarantee 1; and two groups that are wired.
+// Then last groups that are short: after three whole ones, after one, in a long code, and alone.
 pub fn corners() {
     corner(calls::code_of(0, 1, 12, 6, 0), 84);
     corner(calls::code_of(0, 11, 12, 11, 0), 144);
@@ -66,4 +67,8 @@ pub fn corners() {
     corner(calls::code_of(1, 14, 30, 5, 0), 180);
     corner(calls::code_of(1, 16, 255, 240, 0), 61455);
     corner(calls::code_of(1, 4, 10, 3, 1), 40);
+    corner(calls::code_of(0, 2, 11, 5, 0), 66);
+    corner(calls::code_of(0, 3, 6, 2, 0), 18);
+    corner(calls::code_of(1, 16, 250, 230, 0), 57750);
+    corner(calls::code_of(0, 11, 5, 4, 0), 25);
 }

@@ -2,6 +2,7 @@
 
 mod calls;
 mod corners;
+mod short;
 mod wired;
 
 // The classroom sheet's code N: encoding.
@@ -70,6 +71,17 @@ fn questions() {
     calls::encodes(large, b"\x01", 9);
 }
 
+// No slots, one in the last group, k below and above what a short one takes, wired, and a codeword of nine symbols for eight.
+fn short_questions() {
+    asks(0, 2, 0, 4, 0);
+    asks(0, 5, 7, 4, 0);
+    asks(0, 3, 7, 1, 0);
+    asks(0, 2, 8, 6, 0);
+    asks(0, 2, 8, 6, 1);
+    asks(0, 2, 8, 4, 1);
+    asks(0, 2, 8, 4, 0);
+}
+
 // Codes over bytes and over thirteen that the classroom does not see.
 fn other_codes() {
     calls::encodes(
@@ -95,7 +107,9 @@ fn main() {
     classroom_repair();
     classroom_losses();
     questions();
+    short_questions();
     other_codes();
     wired::wired_codes();
+    short::short_codes();
     corners::corners();
 }

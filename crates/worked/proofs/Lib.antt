@@ -1,2 +1,4 @@
+pub mod Quick
 pub mod Deciding
+pub mod ShortCases
 pub mod Cases

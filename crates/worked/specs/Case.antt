@@ -1,17 +1,19 @@
 -- The classroom sheet's cases in one table, and what each says of the definitions. Assumes nothing: these are definitions.
---   Case        a case: a question to the definitions with its answer
---   Holds       what a case claims
---   cases       the table
---   Cases-hold  every case of the table holds
+--   Case         a case: a question to the definitions with its answer
+--   Holds        what a case claims
+--   cases        the table
+--   short-cases  its end: codes whose last group is short, or that would have such a group
+--   Cases-hold   every case of the table holds
 use mathlib.Core.Path.{_≡_}
 use mathlib.Core.Bool.{true}
 use mathlib.Core.List.{List, [], _∷_}
 use Prim.Native.Nat.{ℕ, _<_}
 use lib.ListN.{length}
-use Rattle.algebra.specs.Sequence.{tabulate, all-below, Each}
+use Rattle.algebra.specs.Sequence.{tabulate-from, tabulate, all-below, Each}
 use Rattle.field.specs.Field.{q, times}
 use Rattle.code.specs.declared.Code.{Code}
-use Rattle.code.specs.Shape.{point}
+use Rattle.code.specs.Shape.{missing, point, mates-number}
+use Rattle.code.specs.Basis.{most-shared}
 use Rattle.code.specs.Codeword.{encoded, guarantee}
 use Rattle.code.specs.Erasure.{first-broken, grade}
 use Rattle.code.specs.Repair.{weights, repaired}
@@ -26,7 +28,11 @@ pub data Case : Type 0 where
   -- questions 1 to 4 and 17 end with this number: 0 for an accepted code
   asks : (c : Code) (number : ℕ) → Case
   located : (c : Code) (points : List ℕ) → Case
+  -- the points that a short last group lacks
+  lacks : (c : Code) (points : List ℕ) → Case
   sure : (c : Code) (guarantee : ℕ) → Case
+  -- two codewords share at most so many places
+  shares : (c : Code) (most : ℕ) → Case
   encodes : (c : Code) (message word : List ℕ) → Case
   weighs : (c : Code) (slot : ℕ) (weights : List ℕ) → Case
   repairs : (c : Code) (slot : ℕ) (mates : List ℕ) (answer : ℕ) → Case
@@ -45,11 +51,13 @@ pub data Case : Type 0 where
 abbrev pub Holds : Case → Type 0
 Holds (asks c number) = code-refusal c ≡ number
 Holds (located c points) = Accepted c × (tabulate (point (single c)) (c .n) ≡ points)
+Holds (lacks c points) = Accepted c × (tabulate-from (point (single c)) (missing (single c)) (c .n) ≡ points)
 Holds (sure c g) = Accepted c × (guarantee (single c) ≡ g)
+Holds (shares c most) = Accepted c × (most-shared (single c) ≡ most)
 Holds (encodes c xs ws) = Accepted c × Message (single c) xs × (encoded (single c) xs ≡ ws)
 Holds (weighs c p ws) = Accepted c × (p < c .n) × (weights (single c) p ≡ ws)
 Holds (repairs c p xs x) =
-    Accepted c × (p < c .n) × (length xs ≡ c .r) × (all-below (q (c .field)) xs ≡ true) × (repaired (single c) p xs ≡ x)
+    Accepted c × (p < c .n) × (length xs ≡ mates-number (single c) p) × (all-below (q (c .field)) xs ≡ true) × (repaired (single c) p xs ≡ x)
 Holds (decodes c ws ms xs) = Accepted c × ((buffer : List ℕ) → Verdict (single c) ws ms buffer xs 0)
 Holds (declines c ws ms number) = Accepted c × ((buffer : List ℕ) → Verdict (single c) ws ms buffer buffer number)
 Holds (graded c ms g) = Accepted c × (grade (single c) ms ≡ g)
@@ -88,6 +96,189 @@ byte-message = 1 ∷ 2 ∷ 3 ∷ 4 ∷ 255 ∷ []
 
 abbrev pub byte-word : List ℕ
 byte-word = 251 ∷ 108 ∷ 97 ∷ 51 ∷ 244 ∷ 1 ∷ 53 ∷ 176 ∷ 125 ∷ []
+
+-- S, whose last group is short, and T, such a code over bytes, with codewords of short-message and byte-message; U and L, with last groups of two
+-- and of twelve
+abbrev pub S : Code
+S = code-of 0 2 11 5 0
+
+abbrev pub short-message : List ℕ
+short-message = 1 ∷ 2 ∷ 3 ∷ 4 ∷ 5 ∷ []
+
+abbrev pub short-word : List ℕ
+short-word = 5 ∷ 10 ∷ 12 ∷ 11 ∷ 4 ∷ 9 ∷ 4 ∷ 8 ∷ 7 ∷ 5 ∷ 7 ∷ []
+
+abbrev pub T : Code
+T = code-of 1 4 8 5 0
+
+abbrev pub short-bytes : List ℕ
+short-bytes = 184 ∷ 218 ∷ 169 ∷ 88 ∷ 134 ∷ 218 ∷ 144 ∷ 126 ∷ []
+
+abbrev pub U : Code
+U = code-of 1 2 8 4 0
+
+abbrev pub L : Code
+L = code-of 1 16 250 230 0
+
+abbrev pub short-cases : List Case
+short-cases =
+    asks S 0
+    ∷ asks (code-of 0 2 11 0 0) 4
+    ∷ asks (code-of 0 2 11 1 0) 0
+    ∷ asks (code-of 0 2 11 2 0) 0
+    ∷ asks (code-of 0 2 11 3 0) 0
+    ∷ asks (code-of 0 2 11 4 0) 0
+    ∷ asks (code-of 0 2 11 6 0) 0
+    ∷ asks (code-of 0 2 11 7 0) 0
+    ∷ asks (code-of 0 2 11 8 0) 4
+    ∷ asks (code-of 0 2 10 5 0) 3
+    ∷ asks (code-of 0 2 13 5 0) 3
+    ∷ asks (code-of 0 2 14 5 0) 3
+    ∷ asks (code-of 0 2 1 1 0) 3
+    ∷ asks (code-of 0 2 0 1 0) 3
+    ∷ asks (code-of 0 1 11 5 0) 3
+    ∷ asks (code-of 0 2 11 5 1) 17
+    ∷ asks (code-of 0 2 11 5 2) 17
+    ∷ asks (code-of 0 2 11 8 1) 4
+    ∷ asks (code-of 0 2 10 5 1) 3
+    ∷ asks (code-of 0 3 11 1 0) 4
+    ∷ asks (code-of 0 3 11 2 0) 0
+    ∷ asks (code-of 0 3 11 8 0) 0
+    ∷ asks (code-of 0 3 11 9 0) 4
+    ∷ asks (code-of 0 11 5 3 0) 4
+    ∷ asks (code-of 0 11 5 4 0) 0
+    ∷ asks (code-of 0 11 5 5 0) 4
+    ∷ asks (code-of 0 11 5 4 1) 17
+    ∷ asks (code-of 1 4 8 1 0) 4
+    ∷ asks (code-of 1 4 8 2 0) 0
+    ∷ asks (code-of 1 4 8 3 0) 0
+    ∷ asks (code-of 1 4 8 4 0) 0
+    ∷ asks T 0
+    ∷ asks (code-of 1 4 8 6 0) 0
+    ∷ asks (code-of 1 4 8 7 0) 4
+    ∷ asks (code-of 1 4 3 2 0) 0
+    ∷ asks (code-of 1 4 3 1 0) 4
+    ∷ asks (code-of 1 4 3 3 0) 4
+    ∷ asks (code-of 1 4 1 1 0) 3
+    ∷ asks (code-of 1 2 254 169 0) 0
+    ∷ asks (code-of 1 2 254 170 0) 4
+    ∷ asks (code-of 1 2 253 1 0) 3
+    ∷ asks (code-of 1 2 257 1 0) 3
+    ∷ asks (code-of 1 16 250 10 0) 4
+    ∷ asks (code-of 1 16 250 11 0) 0
+    ∷ asks (code-of 1 16 250 235 0) 0
+    ∷ asks (code-of 1 16 250 236 0) 4
+    ∷ asks (code-of 1 16 250 230 1) 17
+    ∷ located S (1 ∷ 3 ∷ 9 ∷ 2 ∷ 6 ∷ 5 ∷ 4 ∷ 12 ∷ 10 ∷ 8 ∷ 11 ∷ [])
+    ∷ located (code-of 0 3 6 2 0) (1 ∷ 8 ∷ 12 ∷ 5 ∷ 2 ∷ 3 ∷ [])
+    ∷ located (code-of 0 11 5 4 0) (1 ∷ 2 ∷ 4 ∷ 8 ∷ 3 ∷ [])
+    ∷ located (code-of 0 2 2 1 0) (1 ∷ 3 ∷ [])
+    ∷ located T (1 ∷ 10 ∷ 68 ∷ 146 ∷ 221 ∷ 2 ∷ 20 ∷ 136 ∷ [])
+    ∷ located (code-of 1 14 13 12 0) (1 ∷ 152 ∷ 78 ∷ 10 ∷ 153 ∷ 214 ∷ 68 ∷ 147 ∷ 79 ∷ 146 ∷ 215 ∷ 220 ∷ 221 ∷ [])
+    ∷ lacks S (7 ∷ [])
+    ∷ lacks (code-of 0 3 6 2 0) (11 ∷ 10 ∷ [])
+    ∷ lacks (code-of 0 11 5 4 0) (6 ∷ 12 ∷ 11 ∷ 9 ∷ 5 ∷ 10 ∷ 7 ∷ [])
+    ∷ lacks (code-of 0 2 2 1 0) (9 ∷ [])
+    ∷ lacks T (57 ∷ 167 ∷ [])
+    ∷ lacks (code-of 1 14 13 12 0) (69 ∷ 11 ∷ [])
+    ∷ lacks L (50 ∷ 162 ∷ 18 ∷ 22 ∷ 142 ∷ [])
+    ∷ sure S 4
+    ∷ sure (code-of 0 2 11 1 0) 10
+    ∷ sure (code-of 0 2 11 7 0) 1
+    ∷ sure (code-of 0 2 8 4 0) 2
+    ∷ sure (code-of 0 3 6 2 0) 3
+    ∷ sure (code-of 0 3 11 7 0) 2
+    ∷ sure (code-of 0 5 9 6 0) 2
+    ∷ sure (code-of 0 11 5 4 0) 1
+    ∷ sure (code-of 0 2 2 1 0) 1
+    ∷ sure T 2
+    ∷ sure U 2
+    ∷ sure (code-of 1 4 3 2 0) 1
+    ∷ sure (code-of 1 14 13 12 0) 1
+    ∷ sure L 6
+    ∷ shares S 6
+    ∷ shares (code-of 0 2 8 4 0) 5
+    ∷ shares (code-of 0 3 6 2 0) 2
+    ∷ shares (code-of 0 11 5 4 0) 3
+    ∷ shares T 5
+    ∷ shares L 243
+    ∷ encodes S short-message short-word
+    ∷ encodes S (1 ∷ 1 ∷ 1 ∷ 1 ∷ 1 ∷ []) (5 ∷ 5 ∷ 5 ∷ 5 ∷ 5 ∷ 5 ∷ 4 ∷ 5 ∷ 8 ∷ 1 ∷ 4 ∷ [])
+    ∷ encodes S (1 ∷ 0 ∷ 0 ∷ 0 ∷ 0 ∷ []) (9 ∷ 9 ∷ 9 ∷ 3 ∷ 3 ∷ 3 ∷ 7 ∷ 7 ∷ 7 ∷ 0 ∷ 0 ∷ [])
+    ∷ encodes S (0 ∷ 1 ∷ 0 ∷ 0 ∷ 0 ∷ []) (9 ∷ 1 ∷ 3 ∷ 6 ∷ 5 ∷ 2 ∷ 2 ∷ 6 ∷ 5 ∷ 0 ∷ 0 ∷ [])
+    ∷ encodes S (0 ∷ 0 ∷ 1 ∷ 0 ∷ 0 ∷ []) (3 ∷ 3 ∷ 3 ∷ 9 ∷ 9 ∷ 9 ∷ 10 ∷ 10 ∷ 10 ∷ 0 ∷ 0 ∷ [])
+    ∷ encodes S (0 ∷ 0 ∷ 0 ∷ 0 ∷ 1 ∷ []) (7 ∷ 9 ∷ 2 ∷ 8 ∷ 12 ∷ 11 ∷ 10 ∷ 5 ∷ 3 ∷ 1 ∷ 4 ∷ [])
+    ∷ encodes (code-of 0 2 11 1 0) (1 ∷ []) (7 ∷ 9 ∷ 2 ∷ 8 ∷ 12 ∷ 11 ∷ 10 ∷ 5 ∷ 3 ∷ 1 ∷ 4 ∷ [])
+    ∷ encodes (code-of 0 2 11 7 0) (1 ∷ 2 ∷ 3 ∷ 4 ∷ 5 ∷ 6 ∷ 7 ∷ []) (4 ∷ 12 ∷ 10 ∷ 5 ∷ 4 ∷ 1 ∷ 0 ∷ 0 ∷ 0 ∷ 7 ∷ 2 ∷ [])
+    ∷ encodes (code-of 0 3 6 2 0) (1 ∷ 2 ∷ []) (9 ∷ 10 ∷ 2 ∷ 6 ∷ 1 ∷ 8 ∷ [])
+    ∷ encodes (code-of 0 3 6 3 0) (1 ∷ 2 ∷ 3 ∷ []) (4 ∷ 10 ∷ 8 ∷ 3 ∷ 8 ∷ 12 ∷ [])
+    ∷ encodes (code-of 0 3 11 7 0) (1 ∷ 2 ∷ 3 ∷ 4 ∷ 5 ∷ 6 ∷ 7 ∷ []) (8 ∷ 10 ∷ 6 ∷ 7 ∷ 3 ∷ 8 ∷ 10 ∷ 12 ∷ 2 ∷ 4 ∷ 8 ∷ [])
+    ∷ encodes (code-of 0 5 9 6 0) (1 ∷ 2 ∷ 3 ∷ 4 ∷ 5 ∷ 6 ∷ []) (6 ∷ 4 ∷ 8 ∷ 0 ∷ 4 ∷ 10 ∷ 6 ∷ 4 ∷ 10 ∷ [])
+    ∷ encodes (code-of 0 11 5 4 0) (1 ∷ 2 ∷ 3 ∷ 4 ∷ []) (1 ∷ 8 ∷ 8 ∷ 8 ∷ 10 ∷ [])
+    ∷ encodes (code-of 0 2 2 1 0) (1 ∷ []) (5 ∷ 7 ∷ [])
+    ∷ encodes T byte-message short-bytes
+    ∷ encodes U (1 ∷ 2 ∷ 3 ∷ 4 ∷ []) (127 ∷ 108 ∷ 234 ∷ 6 ∷ 164 ∷ 145 ∷ 225 ∷ 16 ∷ [])
+    ∷ encodes (code-of 1 2 11 5 0) byte-message (192 ∷ 239 ∷ 214 ∷ 87 ∷ 48 ∷ 84 ∷ 123 ∷ 229 ∷ 111 ∷ 29 ∷ 171 ∷ [])
+    ∷ encodes (code-of 1 4 3 2 0) (1 ∷ 2 ∷ []) (30 ∷ 202 ∷ 144 ∷ [])
+    ∷ encodes (code-of 1 14 13 12 0) (1 ∷ 2 ∷ 3 ∷ 4 ∷ 5 ∷ 6 ∷ 7 ∷ 8 ∷ 9 ∷ 10 ∷ 11 ∷ 12 ∷ []) (150 ∷ 172 ∷ 226 ∷ 147 ∷ 120 ∷ 206 ∷ 49 ∷ 180 ∷ 117 ∷ 34 ∷ 250 ∷ 91 ∷ 83 ∷ [])
+    ∷ weighs S 0 (10 ∷ 4 ∷ [])
+    ∷ weighs S 8 (10 ∷ 4 ∷ [])
+    ∷ weighs S 9 (10 ∷ [])
+    ∷ weighs S 10 (4 ∷ [])
+    ∷ weighs (code-of 0 3 6 2 0) 5 (8 ∷ [])
+    ∷ weighs (code-of 0 11 5 4 0) 4 (4 ∷ 8 ∷ 3 ∷ 6 ∷ [])
+    ∷ weighs (code-of 0 5 9 6 0) 8 (4 ∷ 3 ∷ [])
+    ∷ weighs T 7 (146 ∷ 221 ∷ [])
+    ∷ weighs U 7 (215 ∷ [])
+    ∷ weighs (code-of 1 14 13 12 0) 12 (10 ∷ 153 ∷ 214 ∷ 68 ∷ 147 ∷ 79 ∷ 146 ∷ 215 ∷ 220 ∷ 221 ∷ 69 ∷ 11 ∷ [])
+    ∷ weighs L 249 (223 ∷ 26 ∷ 59 ∷ 169 ∷ 85 ∷ 145 ∷ 150 ∷ 100 ∷ 89 ∷ 36 ∷ 44 ∷ [])
+    ∷ repairs S 8 (4 ∷ 8 ∷ []) 7
+    ∷ repairs S 9 (7 ∷ []) 5
+    ∷ repairs S 10 (5 ∷ []) 7
+    ∷ repairs (code-of 0 3 6 2 0) 5 (1 ∷ []) 8
+    ∷ repairs (code-of 0 11 5 4 0) 4 (1 ∷ 2 ∷ 3 ∷ 4 ∷ []) 1
+    ∷ repairs (code-of 0 2 2 1 0) 1 (1 ∷ []) 4
+    ∷ repairs T 7 (218 ∷ 144 ∷ []) 126
+    ∷ repairs U 7 (1 ∷ []) 215
+    ∷ repairs (code-of 1 14 13 12 0) 12 (1 ∷ 2 ∷ 3 ∷ 4 ∷ 5 ∷ 6 ∷ 7 ∷ 8 ∷ 9 ∷ 10 ∷ 11 ∷ 12 ∷ []) 224
+    ∷ repairs L 249 (1 ∷ 2 ∷ 3 ∷ 4 ∷ 5 ∷ 6 ∷ 7 ∷ 8 ∷ 9 ∷ 10 ∷ 11 ∷ []) 112
+    ∷ graded S (1 ∷ 0 ∷ 0 ∷ 1 ∷ 0 ∷ 0 ∷ 1 ∷ 0 ∷ 0 ∷ 0 ∷ 1 ∷ []) 1
+    ∷ breaks S (1 ∷ 0 ∷ 0 ∷ 1 ∷ 0 ∷ 0 ∷ 1 ∷ 0 ∷ 0 ∷ 0 ∷ 1 ∷ []) 255
+    ∷ graded S (0 ∷ 0 ∷ 0 ∷ 0 ∷ 0 ∷ 0 ∷ 0 ∷ 0 ∷ 0 ∷ 1 ∷ 1 ∷ []) 2
+    ∷ breaks S (0 ∷ 0 ∷ 0 ∷ 0 ∷ 0 ∷ 0 ∷ 0 ∷ 0 ∷ 0 ∷ 1 ∷ 1 ∷ []) 3
+    ∷ graded S (1 ∷ 1 ∷ 1 ∷ 0 ∷ 0 ∷ 0 ∷ 0 ∷ 0 ∷ 0 ∷ 1 ∷ 0 ∷ []) 2
+    ∷ breaks S (1 ∷ 1 ∷ 1 ∷ 0 ∷ 0 ∷ 0 ∷ 0 ∷ 0 ∷ 0 ∷ 1 ∷ 0 ∷ []) 0
+    ∷ graded S (0 ∷ 0 ∷ 1 ∷ 0 ∷ 0 ∷ 1 ∷ 0 ∷ 0 ∷ 1 ∷ 1 ∷ 1 ∷ []) 3
+    ∷ breaks S (0 ∷ 0 ∷ 1 ∷ 0 ∷ 0 ∷ 1 ∷ 0 ∷ 0 ∷ 1 ∷ 1 ∷ 1 ∷ []) 3
+    ∷ graded S (0 ∷ 0 ∷ 0 ∷ 0 ∷ 0 ∷ 0 ∷ 0 ∷ 0 ∷ 1 ∷ 1 ∷ 0 ∷ []) 1
+    ∷ graded T (1 ∷ 0 ∷ 0 ∷ 0 ∷ 0 ∷ 1 ∷ 0 ∷ 0 ∷ []) 1
+    ∷ graded T (0 ∷ 0 ∷ 0 ∷ 0 ∷ 0 ∷ 1 ∷ 1 ∷ 0 ∷ []) 2
+    ∷ breaks T (0 ∷ 0 ∷ 0 ∷ 0 ∷ 0 ∷ 1 ∷ 1 ∷ 0 ∷ []) 1
+    ∷ passes S (255 ∷ 10 ∷ 12 ∷ 255 ∷ 4 ∷ 9 ∷ 255 ∷ 8 ∷ 7 ∷ 5 ∷ 255 ∷ []) (1 ∷ 0 ∷ 0 ∷ 1 ∷ 0 ∷ 0 ∷ 1 ∷ 0 ∷ 0 ∷ 0 ∷ 1 ∷ []) (5 ∷ 10 ∷ 12 ∷ 11 ∷ 4 ∷ 9 ∷ 4 ∷ 8 ∷ 7 ∷ 5 ∷ 7 ∷ []) (0 ∷ 0 ∷ 0 ∷ 0 ∷ 0 ∷ 0 ∷ 0 ∷ 0 ∷ 0 ∷ 0 ∷ 0 ∷ []) 4
+    ∷ passes S (255 ∷ 10 ∷ 12 ∷ 255 ∷ 255 ∷ 9 ∷ 4 ∷ 8 ∷ 7 ∷ 255 ∷ 7 ∷ []) (1 ∷ 0 ∷ 0 ∷ 1 ∷ 1 ∷ 0 ∷ 0 ∷ 0 ∷ 0 ∷ 1 ∷ 0 ∷ []) (5 ∷ 10 ∷ 12 ∷ 255 ∷ 255 ∷ 9 ∷ 4 ∷ 8 ∷ 7 ∷ 5 ∷ 7 ∷ []) (0 ∷ 0 ∷ 0 ∷ 1 ∷ 1 ∷ 0 ∷ 0 ∷ 0 ∷ 0 ∷ 0 ∷ 0 ∷ []) 2
+    ∷ passes S (5 ∷ 10 ∷ 12 ∷ 11 ∷ 4 ∷ 9 ∷ 4 ∷ 8 ∷ 7 ∷ 255 ∷ 255 ∷ []) (0 ∷ 0 ∷ 0 ∷ 0 ∷ 0 ∷ 0 ∷ 0 ∷ 0 ∷ 0 ∷ 1 ∷ 1 ∷ []) (5 ∷ 10 ∷ 12 ∷ 11 ∷ 4 ∷ 9 ∷ 4 ∷ 8 ∷ 7 ∷ 255 ∷ 255 ∷ []) (0 ∷ 0 ∷ 0 ∷ 0 ∷ 0 ∷ 0 ∷ 0 ∷ 0 ∷ 0 ∷ 1 ∷ 1 ∷ []) 0
+    ∷ passes S (255 ∷ 255 ∷ 12 ∷ 11 ∷ 4 ∷ 9 ∷ 4 ∷ 8 ∷ 7 ∷ 5 ∷ 255 ∷ []) (1 ∷ 1 ∷ 0 ∷ 0 ∷ 0 ∷ 0 ∷ 0 ∷ 0 ∷ 0 ∷ 0 ∷ 1 ∷ []) (255 ∷ 255 ∷ 12 ∷ 11 ∷ 4 ∷ 9 ∷ 4 ∷ 8 ∷ 7 ∷ 5 ∷ 7 ∷ []) (1 ∷ 1 ∷ 0 ∷ 0 ∷ 0 ∷ 0 ∷ 0 ∷ 0 ∷ 0 ∷ 0 ∷ 0 ∷ []) 1
+    ∷ passes T (255 ∷ 218 ∷ 169 ∷ 88 ∷ 134 ∷ 218 ∷ 255 ∷ 126 ∷ []) (1 ∷ 0 ∷ 0 ∷ 0 ∷ 0 ∷ 0 ∷ 1 ∷ 0 ∷ []) (184 ∷ 218 ∷ 169 ∷ 88 ∷ 134 ∷ 218 ∷ 144 ∷ 126 ∷ []) (0 ∷ 0 ∷ 0 ∷ 0 ∷ 0 ∷ 0 ∷ 0 ∷ 0 ∷ []) 2
+    ∷ passes T (184 ∷ 218 ∷ 255 ∷ 88 ∷ 134 ∷ 255 ∷ 144 ∷ 255 ∷ []) (0 ∷ 0 ∷ 1 ∷ 0 ∷ 0 ∷ 1 ∷ 0 ∷ 1 ∷ []) (184 ∷ 218 ∷ 169 ∷ 88 ∷ 134 ∷ 255 ∷ 144 ∷ 255 ∷ []) (0 ∷ 0 ∷ 0 ∷ 0 ∷ 0 ∷ 1 ∷ 0 ∷ 1 ∷ []) 1
+    ∷ decodes S (5 ∷ 10 ∷ 12 ∷ 11 ∷ 4 ∷ 9 ∷ 4 ∷ 8 ∷ 7 ∷ 255 ∷ 255 ∷ []) (0 ∷ 0 ∷ 0 ∷ 0 ∷ 0 ∷ 0 ∷ 0 ∷ 0 ∷ 0 ∷ 1 ∷ 1 ∷ []) short-message
+    ∷ decodes S (255 ∷ 255 ∷ 255 ∷ 11 ∷ 4 ∷ 9 ∷ 4 ∷ 8 ∷ 7 ∷ 255 ∷ 7 ∷ []) (1 ∷ 1 ∷ 1 ∷ 0 ∷ 0 ∷ 0 ∷ 0 ∷ 0 ∷ 0 ∷ 1 ∷ 0 ∷ []) short-message
+    ∷ decodes S (5 ∷ 10 ∷ 255 ∷ 11 ∷ 4 ∷ 255 ∷ 4 ∷ 8 ∷ 255 ∷ 255 ∷ 255 ∷ []) (0 ∷ 0 ∷ 1 ∷ 0 ∷ 0 ∷ 1 ∷ 0 ∷ 0 ∷ 1 ∷ 1 ∷ 1 ∷ []) short-message
+    ∷ declines S (255 ∷ 255 ∷ 255 ∷ 255 ∷ 255 ∷ 9 ∷ 4 ∷ 8 ∷ 7 ∷ 5 ∷ 7 ∷ []) (1 ∷ 1 ∷ 1 ∷ 1 ∷ 1 ∷ 0 ∷ 0 ∷ 0 ∷ 0 ∷ 0 ∷ 0 ∷ []) 10
+    ∷ declines S (255 ∷ 255 ∷ 255 ∷ 11 ∷ 4 ∷ 9 ∷ 4 ∷ 8 ∷ 7 ∷ 255 ∷ 255 ∷ []) (1 ∷ 1 ∷ 1 ∷ 0 ∷ 0 ∷ 0 ∷ 0 ∷ 0 ∷ 0 ∷ 1 ∷ 1 ∷ []) 10
+    ∷ declines S (255 ∷ 255 ∷ 255 ∷ 255 ∷ 255 ∷ 255 ∷ 255 ∷ 255 ∷ 255 ∷ 255 ∷ 255 ∷ []) (1 ∷ 1 ∷ 1 ∷ 1 ∷ 1 ∷ 1 ∷ 1 ∷ 1 ∷ 1 ∷ 1 ∷ 1 ∷ []) 10
+    ∷ declines S (5 ∷ 10 ∷ 12 ∷ 11 ∷ 4 ∷ 9 ∷ 4 ∷ 8 ∷ 7 ∷ 5 ∷ 8 ∷ []) (0 ∷ 0 ∷ 0 ∷ 0 ∷ 0 ∷ 0 ∷ 0 ∷ 0 ∷ 0 ∷ 0 ∷ 0 ∷ []) 9
+    ∷ decodes T (184 ∷ 218 ∷ 169 ∷ 88 ∷ 134 ∷ 255 ∷ 255 ∷ 126 ∷ []) (0 ∷ 0 ∷ 0 ∷ 0 ∷ 0 ∷ 1 ∷ 1 ∷ 0 ∷ []) byte-message
+    ∷ decodes T (255 ∷ 218 ∷ 169 ∷ 88 ∷ 134 ∷ 255 ∷ 255 ∷ 126 ∷ []) (1 ∷ 0 ∷ 0 ∷ 0 ∷ 0 ∷ 1 ∷ 1 ∷ 0 ∷ []) byte-message
+    ∷ declines T (184 ∷ 218 ∷ 169 ∷ 88 ∷ 134 ∷ 255 ∷ 255 ∷ 255 ∷ []) (0 ∷ 0 ∷ 0 ∷ 0 ∷ 0 ∷ 1 ∷ 1 ∷ 1 ∷ []) 10
+    ∷ declines T (255 ∷ 255 ∷ 255 ∷ 88 ∷ 134 ∷ 218 ∷ 144 ∷ 126 ∷ []) (1 ∷ 1 ∷ 1 ∷ 0 ∷ 0 ∷ 0 ∷ 0 ∷ 0 ∷ []) 10
+    ∷ declines T (184 ∷ 218 ∷ 169 ∷ 88 ∷ 134 ∷ 218 ∷ 144 ∷ 127 ∷ []) (0 ∷ 0 ∷ 0 ∷ 0 ∷ 0 ∷ 0 ∷ 0 ∷ 0 ∷ []) 9
+    ∷ sheets S (255 ∷ 10 ∷ 12 ∷ 11 ∷ 4 ∷ 9 ∷ 4 ∷ 8 ∷ 7 ∷ 255 ∷ 7 ∷ []) (1 ∷ 0 ∷ 0 ∷ 0 ∷ 0 ∷ 0 ∷ 0 ∷ 0 ∷ 0 ∷ 1 ∷ 0 ∷ [])
+    (0x10020b05 ∷ 0x30000000 ∷ 0x2000010a ∷ 0x2000020c ∷ 0x2000030b ∷ 0x20000404 ∷ 0x20000509 ∷ 0x20000604 ∷ 0x20000708 ∷ 0x20000807 ∷ 0x30000900 ∷ 0x20000a07 ∷ 0x4000000b ∷ [])
+    (0 ∷ 10 ∷ 12 ∷ 11 ∷ 4 ∷ 9 ∷ 4 ∷ 8 ∷ 7 ∷ 0 ∷ 7 ∷ [])
+    ∷ sheets U (127 ∷ 108 ∷ 234 ∷ 6 ∷ 164 ∷ 145 ∷ 225 ∷ 255 ∷ []) (0 ∷ 0 ∷ 0 ∷ 0 ∷ 0 ∷ 0 ∷ 0 ∷ 1 ∷ [])
+    (0x11020804 ∷ 0x2000007f ∷ 0x2000016c ∷ 0x200002ea ∷ 0x20000306 ∷ 0x200004a4 ∷ 0x20000591 ∷ 0x200006e1 ∷ 0x30000700 ∷ 0x40000008 ∷ [])
+    (127 ∷ 108 ∷ 234 ∷ 6 ∷ 164 ∷ 145 ∷ 225 ∷ 0 ∷ [])
+    ∷ []
 
 abbrev pub cases : List Case
 cases =
@@ -159,7 +350,7 @@ cases =
     (0x19020905 ∷ 0x200000fb ∷ 0x30000100 ∷ 0x20000261 ∷ 0x20000333 ∷ 0x30000400 ∷ 0x20000501 ∷ 0x20000635 ∷ 0x200007b0 ∷ 0x2000087d ∷ 0x40000009 ∷ [])
     (251 ∷ 0 ∷ 97 ∷ 51 ∷ 0 ∷ 1 ∷ 53 ∷ 176 ∷ 125 ∷ [])
     ∷ multiplies 1 128 2 29
-    ∷ []
+    ∷ short-cases
 
 unfoldable pub Cases-hold : Type 0
 Cases-hold = Each Holds cases
