@@ -7,8 +7,8 @@
  *
  * Here a drive is a file, drive-P in a folder. Byte s of drive-P is symbol P of codeword s, which encodes bytes s * K to
  * s * K + K - 1 of the file, with zeros after its end. stripe.txt has the code and the file's length. Under wiring 0 the
- * drives of a group stand side by side; wiring 1 spreads them, so that a shelf of drives can fail and each is rebuilt.
- * The Rust example of the same name has the same commands and files.
+ * drives of a group stand side by side, and the last group may be short; wiring 1 spreads them, so that a shelf of drives
+ * can fail and each is rebuilt. The Rust example of the same name has the same commands and files.
  */
 #define _POSIX_C_SOURCE 200809L
 
@@ -38,6 +38,7 @@ static const char usage[] =
     "       store lose FOLDER SLOT...                  deletes the drives of these slots\n"
     "       store load FOLDER FILE                     writes the file back to FILE, from the drives that are left\n"
     "WIRING 0 has the drives of a group side by side; WIRING 1 spreads them, for drives on shelves.\n"
+    "Groups have R + 1 drives. Under WIRING 0 the last one may have fewer, but not 1: N 18 with R 4 has groups of 5 5 5 3.\n"
     "FOLDER must be new or empty to store; load makes FILE anew. Nothing is ever overwritten.\n"
     "A wrong byte on a drive that is there is found only if no codeword fits it (refusal 9); else FILE may be wrong.\n"
     "Exit status: 0 done, 1 refused, 2 reading or writing failed, or usage.\n";
@@ -191,9 +192,19 @@ static void drive_name(uint32_t slot, char name[NAME_MOST]) { snprintf(name, NAM
 
 /* ---- the code ---- */
 
-static uint32_t guarantee(const struct layout *l) { return l->n - l->k - (l->k + l->r - 1) / l->r + 1; }
+static uint32_t groups(const struct layout *l) { return (l->n + l->r) / (l->r + 1); }
 
-static uint32_t groups(const struct layout *l) { return l->n / (l->r + 1); }
+/* How many members a group has: r + 1, or in a short last group those that are left. */
+static uint32_t members(const struct layout *l, uint32_t group) {
+    uint32_t left = l->n - group * (l->r + 1);
+    return left < l->r + 1 ? left : l->r + 1;
+}
+
+/* The members that a short last group lacks count as message symbols. */
+static uint32_t guarantee(const struct layout *l) {
+    uint32_t missing = groups(l) * (l->r + 1) - l->n;
+    return l->n - l->k - (l->k + missing + l->r - 1) / l->r + 1;
+}
 
 /* The slot of a member of a group; members in order are slots in order. */
 static uint32_t slot_of(const struct layout *l, uint32_t group, uint32_t member) {
@@ -377,11 +388,11 @@ static int encode_all(const struct layout *l, const uint8_t *file, uint8_t *driv
 
 static void say_stored(const struct layout *l, double start) {
     char length[32], stripes[32];
-    uint32_t sure = guarantee(l);
+    uint32_t sure = guarantee(l), most = members(l, 0) - 1, least = members(l, groups(l) - 1) - 1;
     printf("store: %s bytes on %" PRIu32 " drives of %s bytes: %.1f MB/s (file bytes encoded and written a second)\n",
            grouped(l->length, length), l->n, grouped(l->stripes, stripes), megabytes_a_second(l->length, start));
-    printf("store: any %" PRIu32 " drive%s can be lost and the file still loads; one lost drive is rebuilt from %" PRIu32
-           " others\n", sure, sure == 1 ? "" : "s", l->r);
+    printf("store: any %" PRIu32 " drive%s can be lost and the file still loads; one lost drive is rebuilt from %s%" PRIu32
+           " other%s\n", sure, sure == 1 ? "" : "s", least < most ? "at most " : "", most, most == 1 ? "" : "s");
 }
 
 static int store_bytes(const struct bytes *bytes, const char *folder, struct layout *l, double start) {
@@ -493,15 +504,15 @@ static int read_drives(int folder, const struct layout *l, struct drives *drives
     return status;
 }
 
-/* Rebuilds the drive of a slot from its mates, strip by strip. */
-static int rebuild(const struct layout *l, uint32_t slot, const uint32_t *mates, struct drives *drives) {
+/* Rebuilds the drive of a slot from its mates, so many, strip by strip. */
+static int rebuild(const struct layout *l, uint32_t slot, const uint32_t *mates, uint32_t count, struct drives *drives) {
     static uint8_t strips[16 * LATSEFIDY_STRIP_MOST];
     uint8_t *out = malloc(l->stripes + 1);
     if (out == NULL) return fail("keep in memory", "a drive");
     for (size_t from = 0, length; from < l->stripes; from += length) {
         length = l->stripes - from < LATSEFIDY_STRIP_MOST ? l->stripes - from : LATSEFIDY_STRIP_MOST;
-        for (uint32_t i = 0; i < l->r; i++) memcpy(strips + i * length, drives->at[mates[i]] + from, length);
-        uint32_t refused = latsefidy_rebuild(BYTES, l->r, l->n, l->k, l->wiring, slot, strips, l->r * length, out + from,
+        for (uint32_t i = 0; i < count; i++) memcpy(strips + i * length, drives->at[mates[i]] + from, length);
+        uint32_t refused = latsefidy_rebuild(BYTES, l->r, l->n, l->k, l->wiring, slot, strips, count * length, out + from,
                                              length);
         if (refused != 0) {
             free(out);
@@ -510,7 +521,7 @@ static int rebuild(const struct layout *l, uint32_t slot, const uint32_t *mates,
     }
     drives->at[slot] = out;
     printf("load: drive %" PRIu32 " rebuilt from drives", slot);
-    for (uint32_t i = 0; i < l->r; i++) printf(" %" PRIu32, mates[i]);
+    for (uint32_t i = 0; i < count; i++) printf(" %" PRIu32, mates[i]);
     printf("\n");
     return DONE;
 }
@@ -519,12 +530,12 @@ static int rebuild(const struct layout *l, uint32_t slot, const uint32_t *mates,
 static int rebuild_groups(const struct layout *l, struct drives *drives) {
     for (uint32_t group = 0; group < groups(l); group++) {
         uint32_t lost = 0, slot = 0, kept = 0, mates[GROUP_MOST];
-        for (uint32_t i = 0; i <= l->r; i++) {
+        for (uint32_t i = 0; i < members(l, group); i++) {
             uint32_t p = slot_of(l, group, i);
             if (drives->at[p] == NULL) lost++, slot = p;
             else mates[kept++] = p;
         }
-        int status = lost == 1 ? rebuild(l, slot, mates, drives) : DONE;
+        int status = lost == 1 ? rebuild(l, slot, mates, kept, drives) : DONE;
         if (status != DONE) return status;
     }
     return DONE;

@@ -2,18 +2,24 @@
  *
  * A code is five numbers: field, r, n, k, wiring. A message of k symbols becomes a codeword of n
  * symbols, one for each drive slot, 0 to n - 1. Field 0 has the q = 13 symbols 0 to 12, field 1 the
- * q = 256 bytes. A symbol is one byte. The slots are in G = n / (r + 1) groups of r + 1; any one
- * symbol of a group is repaired from the other r, its mates. Up to the guarantee,
- * n - k - ceil(k / r) + 1, any lost symbols are decoded.
+ * q = 256 bytes. A symbol is one byte. The slots are in groups; any one symbol of a group is
+ * repaired from the others, its mates. Up to the guarantee any lost symbols are decoded.
  *
  * Marks are a byte a slot: 0 kept, 1 lost. A lost slot may hold any byte; it is never read. A wrong
  * symbol in a slot that is marked as kept is not covered: decode may refuse it (9), or give another
  * message.
  *
+ * Groups. A whole group has r + 1 slots, each with r mates. Where n is a multiple of r + 1 all
+ * groups are whole, and the guarantee is n - k - ceil(k / r) + 1. Else the last group is short: it
+ * has the s = n mod (r + 1) slots that are left, each with s - 1 mates, and the guarantee is
+ * n - k - ceil((k + r + 1 - s) / r) + 1. The polynomial of a codeword is 0 at the r + 1 - s points
+ * that the short group lacks. There are G = ceil(n / (r + 1)) groups.
+ *
  * Wiring. It says which slots make a group. Under wiring 0 they stand side by side: slot p is
  * member p mod (r + 1) of group p div (r + 1). Under wiring 1 the groups are spread: slot p is
  * member p div G of group p mod G, so that G slots side by side, as on a shelf, have one of each
- * group. The symbol of a member of a group is the same under both; only its slot differs.
+ * group. The symbol of a member of a group is the same under both; only its slot differs. Wiring 1
+ * wants whole groups.
  *
  * Buffers. Each is a pointer and a length. Pointers point to that many readable elements (writable
  * where not const), and the buffers of one call do not overlap. Pointers are never null, not even
@@ -40,8 +46,8 @@
  * call with a code first asks of it, in this order:
  *   1   is field 0 or 1?
  *   2   is r from 1 to 16, and does r + 1 divide q - 1? (field 0: 1 2 3 5 11; field 1: 2 4 14 16)
- *   3   is n a multiple of r + 1, from r + 1 to q - 1?
- *   4   is k from 1 to r * n / (r + 1)?
+ *   3   is n from 1 to q - 1, and not 1 more than a multiple of r + 1?
+ *   4   is k from 1 to r * n / (r + 1), rounded down, and for a short last group s - 1 or more?
  *   17  is the wiring 0, or 1 with n a multiple of r + 1?
  *
  * Where a call answers a value, the refusal is in the high 32 bits and the value in the low; the
@@ -58,9 +64,9 @@ extern "C" {
 #endif
 
 #define LATSEFIDY_VERSION_MAJOR 0
-#define LATSEFIDY_VERSION_MINOR 3
+#define LATSEFIDY_VERSION_MINOR 4
 #define LATSEFIDY_VERSION_PATCH 0
-#define LATSEFIDY_VERSION "0.3.0"
+#define LATSEFIDY_VERSION "0.4.0"
 
 #define LATSEFIDY_WEIGHTS 16       /* length of a weights buffer */
 #define LATSEFIDY_STRIP_MOST 4096  /* most symbols of one strip */
@@ -99,8 +105,8 @@ static inline const char *latsefidy_refusal_text(uint32_t number) {
     case LATSEFIDY_OK: return "no refusal";
     case LATSEFIDY_REFUSAL_FIELD: return "the field is neither 0 nor 1";
     case LATSEFIDY_REFUSAL_R: return "r is not from 1 to 16, or r + 1 does not divide q - 1";
-    case LATSEFIDY_REFUSAL_N: return "n is no multiple of r + 1 from r + 1 to q - 1";
-    case LATSEFIDY_REFUSAL_K: return "k is not from 1 to r * n / (r + 1)";
+    case LATSEFIDY_REFUSAL_N: return "n is not from 1 to q - 1, or 1 more than a multiple of r + 1";
+    case LATSEFIDY_REFUSAL_K: return "k is not from 1 to r * n / (r + 1), or below n mod (r + 1) - 1";
     case LATSEFIDY_REFUSAL_LENGTH: return "a buffer has a wrong length";
     case LATSEFIDY_REFUSAL_SYMBOL: return "a symbol is q or more";
     case LATSEFIDY_REFUSAL_SLOT: return "the slot is n or more";
@@ -136,9 +142,9 @@ uint32_t latsefidy_encode(uint32_t field, uint32_t r, uint32_t n, uint32_t k, ui
                           const uint8_t *message, size_t message_len,
                           uint8_t *codeword, size_t codeword_len);
 
-/* The r repair weights of a slot, in slot order of its mates: the slot's symbol is the sum of
- * weight times mate.
- *   weights   16 bytes, written: r weights and then zeros
+/* The repair weights of a slot, one a mate, in slot order of its mates: the slot's symbol is the
+ * sum of weight times mate.
+ *   weights   16 bytes, written: r weights, in a short last group s - 1, and then zeros
  * Returns 0 or the refusal, asked in the order 1 2 3 4 17 5 7:
  *   1 to 4  the code, and 17 its wiring
  *   5       weights_len is not 16
@@ -148,11 +154,13 @@ uint32_t latsefidy_weights(uint32_t field, uint32_t r, uint32_t n, uint32_t k, u
                            uint32_t slot, uint8_t *weights, size_t weights_len);
 
 /* Repairs one symbol: the value, at the slot's point, of the polynomial of degree below r through
- * the mates.
- *   mates     r symbols: the other members of the slot's group, in slot order
+ * the mates; in a short last group the one that is also 0 at the points that the group lacks.
+ *   mates     r symbols, in a short last group s - 1: the other members of the slot's group, in
+ *             slot order
  * Returns the refusal (high) and the slot's symbol (low). Asked in the order 1 2 3 4 17 5 7 6:
  *   1 to 4  the code, and 17 its wiring
- *   5       mates_len is not r
+ *   5       mates_len is not r, or for a slot of a short last group not s - 1 (a slot of n or more
+ *           wants r)
  *   7       slot is n or more
  *   6       a mate is q or more
  */
@@ -161,11 +169,13 @@ uint64_t latsefidy_repair(uint32_t field, uint32_t r, uint32_t n, uint32_t k, ui
 
 /* Rebuilds a strip, many symbols of one slot: symbol c of the strip is the repair of symbol c of
  * each mate's strip. The repair weights are worked out once a call, not for each symbol.
- *   strips    r * out_len symbols: the mates' strips in slot order, end to end
+ *   strips    r * out_len symbols, in a short last group (s - 1) * out_len: the mates' strips in
+ *             slot order, end to end
  *   out       1 to 4,096 symbols, written
  * Returns 0 or the refusal, asked in the order 1 2 3 4 17 5 7 6:
  *   1 to 4  the code, and 17 its wiring
- *   5       out_len is 0 or above 4,096, or strips_len is not r * out_len
+ *   5       out_len is 0 or above 4,096, or strips_len is not r * out_len, or for a slot of a short
+ *           last group not (s - 1) * out_len (a slot of n or more wants r * out_len)
  *   7       slot is n or more
  *   6       a symbol of the strips is q or more
  */
@@ -173,8 +183,8 @@ uint32_t latsefidy_rebuild(uint32_t field, uint32_t r, uint32_t n, uint32_t k, u
                            uint32_t slot, const uint8_t *strips, size_t strips_len,
                            uint8_t *out, size_t out_len);
 
-/* Finds the group of a slot in a word, under wiring 0: its r + 1 symbols start at the slot that is
- * answered.
+/* Finds the group of a slot in a word, under wiring 0. Its symbols start at the slot that is
+ * answered, first: there are min(r + 1, n - first) of them, r + 1 or in a short last group s.
  *   word      n symbols, not read
  * Returns the refusal (high) and the first slot of the group (low). Asked in the order
  * 1 2 3 4 17 18 5 7:

@@ -29,12 +29,14 @@ impl Code {
         accepted(unsafe { raw::latsefidy_encode(field, r, n, k, wiring, message.as_ptr(), message.len(), to, len) })
     }
 
-    /// The r repair weights of a slot, in slot order of its mates, and then zeros: the slot's symbol
-    /// is the sum of weight times mate.
+    /// The repair weights of a slot, one a mate, in slot order of its mates, and then zeros: the
+    /// slot's symbol is the sum of weight times mate.
     ///
     /// ```
     /// let code = latsefidy::Code::new(1, 4, 10, 3)?;
     /// assert_eq!(code.weights(7)?, [146, 221, 10, 68, 0, 0, 0, 0, 0, 0, 0, 0, 0, 0, 0, 0]);
+    /// let short = latsefidy::Code::new(1, 4, 8, 5)?;
+    /// assert_eq!(short.weights(7)?, [146, 221, 0, 0, 0, 0, 0, 0, 0, 0, 0, 0, 0, 0, 0, 0]);
     /// # Ok::<(), latsefidy::Refusal>(())
     /// ```
     pub fn weights(self, slot: u32) -> Result<[u8; WEIGHTS], Refusal> {
@@ -44,13 +46,16 @@ impl Code {
         Ok(weights)
     }
 
-    /// The slot's symbol from its r mates, in slot order.
+    /// The slot's symbol from its [`mates`](Code::mates), in slot order: r of them, fewer for a slot
+    /// of a short last group.
     ///
     /// ```
     /// let code = latsefidy::Code::new(0, 2, 9, 4)?;
     /// assert_eq!(code.repair(0, &[8, 7])?, 4); // the mates of slot 0 are slots 1 and 2
     /// let wired = latsefidy::Code::with_wiring(0, 2, 9, 4, 1)?;
     /// assert_eq!(wired.repair(0, &[8, 7])?, 4); // they are slots 3 and 6
+    /// let short = latsefidy::Code::new(0, 2, 11, 5)?;
+    /// assert_eq!(short.repair(9, &[7])?, 5); // slot 10 is the one mate of slot 9
     /// # Ok::<(), latsefidy::Refusal>(())
     /// ```
     pub fn repair(self, slot: u32, mates: &[u8]) -> Result<u8, Refusal> {
@@ -60,8 +65,9 @@ impl Code {
         Ok(symbol as u8)
     }
 
-    /// Rebuilds a strip of the slot, 1 to [`STRIP_MOST`](crate::STRIP_MOST) symbols, from the r
-    /// mates' strips, end to end in slot order. The repair weights are worked out once a call.
+    /// Rebuilds a strip of the slot, 1 to [`STRIP_MOST`](crate::STRIP_MOST) symbols, from its
+    /// [`mates`](Code::mates)' strips, end to end in slot order. The repair weights are worked out
+    /// once a call.
     ///
     /// ```
     /// let code = latsefidy::Code::new(1, 4, 10, 3)?;
@@ -79,8 +85,8 @@ impl Code {
         })
     }
 
-    /// The part of the word that is the slot's whole group. Under wiring 1 a group is no part of the
-    /// word: refusal 18.
+    /// The part of the word that is the slot's group, all of it. Under wiring 1 a group is no part of
+    /// the word: refusal 18.
     ///
     /// ```
     /// use latsefidy::{Code, Refusal};
@@ -93,7 +99,7 @@ impl Code {
     pub fn view(self, slot: u32, word: &[u8]) -> Result<&[u8], Refusal> {
         let Code { field, r, n, k, wiring } = self;
         let first = value(unsafe { raw::latsefidy_view(field, r, n, k, wiring, slot, word.as_ptr(), word.len()) })?;
-        Ok(&word[first as usize..][..r as usize + 1])
+        Ok(&word[first as usize..n.min(first + self.group_size()) as usize])
     }
 
     /// Repairs the lost symbol of each group with exactly one loss, and sets its mark to 0; answers

@@ -3,7 +3,7 @@
 //! A [`Code`] spreads a message of k symbols over n drive slots. One lost slot is repaired from its
 //! small group; up to [`Code::guarantee`] lost slots, whichever they are, the message is decoded.
 //! [`Code::with_wiring`] spreads the groups over the slots, so that a lost shelf of drives takes no
-//! group as a whole.
+//! group as a whole. The last group may be short, so that n need be no multiple of r + 1.
 //!
 //! The promise is about lost drives that are marked. Wrong bytes on a drive that claims to be sound
 //! are not covered: an unmarked wrong symbol can decode to another message. Keep a checksum beside
@@ -61,7 +61,7 @@ pub use record::{Outcome, Record};
 pub use refusal::Refusal;
 pub use sheet::{read_sheet, report};
 
-/// Length of the weights of a slot: r weights and then zeros.
+/// Length of the weights of a slot: one a mate and then zeros.
 pub const WEIGHTS: usize = 16;
 /// Most symbols of one strip.
 pub const STRIP_MOST: usize = 4096;

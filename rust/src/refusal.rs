@@ -69,8 +69,8 @@ macro_rules! refusals {
 refusals! {
     Field 1 "the field is neither 0 nor 1"
     R 2 "r is not from 1 to 16, or r + 1 does not divide q - 1"
-    N 3 "n is no multiple of r + 1 from r + 1 to q - 1"
-    K 4 "k is not from 1 to r * n / (r + 1)"
+    N 3 "n is not from 1 to q - 1, or 1 more than a multiple of r + 1"
+    K 4 "k is not from 1 to r * n / (r + 1), or below n mod (r + 1) - 1"
     Length 5 "a buffer has a wrong length"
     Symbol 6 "a symbol is q or more"
     Slot 7 "the slot is n or more"

@@ -9,15 +9,17 @@ fn nonzero(field: u32) -> u32 {
 
 /// Questions 1 to 4 and 17, from the specification.
 fn refusal(field: u32, r: u32, n: u32, k: u32, wiring: u32) -> Option<Refusal> {
+    let (groups, left) = (n.div_ceil(r + 1), n % (r + 1));
+    let least = if left == 0 { 1 } else { left - 1 };
     if field > 1 {
         Some(Refusal::Field)
     } else if ![&[1, 2, 3, 5, 11][..], &[2, 4, 14, 16]][field as usize].contains(&r) {
         Some(Refusal::R)
-    } else if !(r + 1..=nonzero(field)).step_by(r as usize + 1).any(|multiple| multiple == n) {
+    } else if n == 0 || left == 1 || groups * (r + 1) > nonzero(field) {
         Some(Refusal::N)
-    } else if !(1..=n / (r + 1) * r).contains(&k) {
+    } else if !(least..=n - groups).contains(&k) {
         Some(Refusal::K)
-    } else if wiring > 1 {
+    } else if wiring > 1 || (wiring == 1 && left > 0) {
         Some(Refusal::Wiring)
     } else {
         None
@@ -28,6 +30,21 @@ fn refusal(field: u32, r: u32, n: u32, k: u32, wiring: u32) -> Option<Refusal> {
 fn codes(field: u32) -> impl Iterator<Item = Code> {
     let numbers = (1..=16).flat_map(move |r| (1..=nonzero(field)).map(move |n| (r, n)));
     numbers.flat_map(move |(r, n)| (1..=n).filter_map(move |k| Code::new(field, r, n, k).ok()))
+}
+
+/// Whether the last group has less than r + 1 slots.
+fn is_short(code: &Code) -> bool {
+    code.last_group_size() < code.group_size()
+}
+
+/// Every code of a field with whole groups and wiring 0.
+fn whole(field: u32) -> impl Iterator<Item = Code> {
+    codes(field).filter(|code| !is_short(code))
+}
+
+/// A code of a field for each r and n, with the smallest k.
+fn lengths(field: u32) -> impl Iterator<Item = Code> {
+    codes(field).filter(|c| Code::new(c.field(), c.r(), c.n(), c.k() - 1).is_err())
 }
 
 /// The same code with wiring 1.
@@ -60,8 +77,10 @@ fn new_asks_what_the_specification_asks() {
 
 #[test]
 fn there_are_as_many_codes_as_the_rules_allow() {
-    assert_eq!(codes(0).count(), 85);
-    assert_eq!(codes(1).count(), 7_310 + 5_304 + 2_142 + 1_920); // r 2, 4, 14, 16
+    assert_eq!(whole(0).count(), 85);
+    assert_eq!(whole(1).count(), 7_310 + 5_304 + 2_142 + 1_920); // r 2, 4, 14, 16
+    assert_eq!(codes(0).filter(is_short).count(), 16 + 24 + 28 + 10); // r 2, 3, 5, 11
+    assert_eq!(codes(1).filter(is_short).count(), 7_225 + 15_453 + 24_973 + 25_425);
 }
 
 #[test]
@@ -74,7 +93,8 @@ fn getters_give_the_numbers_back() {
 
 #[test]
 fn guarantee_agrees_with_the_record() {
-    for code in codes(0).chain(codes(1)).chain(codes(0).map(wired)) {
+    let short = codes(1).filter(|code| is_short(code) && code.k() % 8 == 0);
+    for code in codes(0).chain(whole(1)).chain(short).chain(whole(0).map(wired)) {
         let (zeros, mut message) = (vec![0; code.n() as usize], vec![0; code.k() as usize]);
         let record = code.record(&zeros, &zeros, &mut message, &mut vec![0; code.work_len()]).unwrap();
         assert_eq!((record.code, record.sure), (code, code.guarantee()));
@@ -83,7 +103,8 @@ fn guarantee_agrees_with_the_record() {
 
 #[test]
 fn work_is_just_enough() {
-    for code in codes(0).chain([Code::new(1, 2, 255, 170).unwrap(), Code::new(1, 16, 255, 240).unwrap()]) {
+    let large = [(2, 255, 170), (16, 255, 240), (16, 250, 230)].map(|(r, n, k)| Code::new(1, r, n, k).unwrap());
+    for code in codes(0).chain(large) {
         let (zeros, mut message) = (vec![0; code.n() as usize], vec![0; code.k() as usize]);
         let mut work = vec![0; code.work_len()];
         assert_eq!(code.decode(&zeros, &zeros, &mut message, &mut work), Ok(()));
@@ -99,13 +120,15 @@ fn viewed(code: Code, slot: u32) -> Vec<u32> {
 
 #[test]
 fn groups_and_mates_agree_with_the_view() {
-    for code in codes(0).chain(codes(1).filter(|c| c.k() == 1)) {
+    for code in codes(0).chain(lengths(1)) {
         let groups: Vec<Vec<u32>> = code.groups().map(|group| group.collect()).collect();
         assert_eq!(groups.concat(), (0..code.n()).collect::<Vec<_>>());
         assert_eq!(code.groups().len(), groups.len());
+        let (last, others) = groups.split_last().unwrap();
+        assert_eq!(last.len(), code.last_group_size() as usize);
+        assert!(others.iter().all(|group| group.len() == code.group_size() as usize));
         for slot in 0..code.n() {
             let group = viewed(code, slot);
-            assert_eq!(group.len(), code.group_size() as usize);
             assert_eq!(groups[code.group_of(slot).unwrap() as usize], group);
             let mates: Vec<u32> = group.into_iter().filter(|&p| p != slot).collect();
             assert_eq!(code.mates(slot).unwrap().collect::<Vec<_>>(), mates);
@@ -113,11 +136,69 @@ fn groups_and_mates_agree_with_the_view() {
     }
 }
 
+/// As many mates as a slot has are wanted, and weighed; a slot of n or more wants r.
+#[test]
+fn mates_are_as_many_as_the_library_wants() {
+    for code in codes(0).chain(lengths(1).filter(|code| code.n() < 40)) {
+        for slot in 0..code.n() + 2 {
+            let mates = code.mates(slot).map_or(code.r() as usize, |mates| mates.count());
+            for count in 0..=17 {
+                let strips = vec![0; 3 * count];
+                let expected = match () {
+                    _ if count != mates => Err(Refusal::Length),
+                    _ if slot >= code.n() => Err(Refusal::Slot),
+                    _ => Ok(()),
+                };
+                assert_eq!(code.repair(slot, &strips[..count]).map(|symbol| assert_eq!(symbol, 0)), expected);
+                assert_eq!(code.rebuild(slot, &strips, &mut [1; 3]), expected);
+            }
+            if let Ok(weights) = code.weights(slot) {
+                assert!(weights[..mates].iter().all(|&w| w > 0) && weights[mates..].iter().all(|&w| w == 0));
+            }
+        }
+    }
+}
+
+/// What is lost comes back, of short codes too: one of each group by repair, and all within the guarantee.
+#[test]
+fn losses_come_back() {
+    let large = [(2, 254, 160), (4, 248, 196), (14, 250, 220), (16, 250, 230)];
+    let large = large.map(|(r, n, k)| Code::new(1, r, n, k).unwrap());
+    for code in codes(0).chain(lengths(1).filter(|code| code.n() < 40)).chain(large) {
+        let q = nonzero(code.field()) + 1;
+        let message: Vec<u8> = (0..code.k()).map(|m| ((7 * m + 1) % q) as u8).collect();
+        let mut word = vec![0; code.n() as usize];
+        code.encode(&message, &mut word).unwrap();
+        for slot in 0..code.n() {
+            let mates: Vec<u8> = code.mates(slot).unwrap().map(|p| word[p as usize]).collect();
+            assert_eq!(code.repair(slot, &mates), Ok(word[slot as usize]), "{code:?} slot {slot}");
+        }
+        // As many lost slots as the guarantee, the first, the last and the middle ones.
+        let sure = code.guarantee() as usize;
+        for first in [0, word.len() - sure, (word.len() - sure) / 2] {
+            let (mut lost, mut marks) = (word.clone(), vec![0; word.len()]);
+            lost[first..first + sure].fill(255);
+            marks[first..first + sure].fill(1);
+            let (mut back, mut work) = (vec![0; message.len()], vec![0; code.work_len()]);
+            assert_eq!(code.decode(&lost, &marks, &mut back, &mut work), Ok(()), "{code:?} from {first}");
+            assert_eq!(back, message);
+        }
+        // The last slot of each group.
+        let (mut lost, mut marks) = (word.clone(), vec![0; word.len()]);
+        for last in code.groups().map(|mut group| group.next_back().unwrap() as usize) {
+            (lost[last], marks[last]) = (255, 1);
+        }
+        assert_eq!(code.grade(&marks), Ok(1));
+        assert_eq!(code.local_pass(&mut lost, &mut marks), Ok(code.groups().len() as u32));
+        assert_eq!((lost, marks), (word, vec![0; code.n() as usize]));
+    }
+}
+
 /// Member i of group g, by the first k unit messages: its symbols are the same under both wirings.
 #[test]
 fn wired_members_have_the_symbols_of_their_places() {
     let large = [Code::new(1, 4, 60, 40).unwrap(), Code::new(1, 16, 255, 240).unwrap()];
-    for code in codes(0).chain(large) {
+    for code in whole(0).chain(large) {
         let wired = wired(code);
         let (mut plain, mut spread) = (vec![0; code.n() as usize], vec![0; code.n() as usize]);
         for m in [0, code.k() / 2, code.k() - 1] {
@@ -134,7 +215,7 @@ fn wired_members_have_the_symbols_of_their_places() {
 
 #[test]
 fn wired_groups_are_spread() {
-    for code in codes(0).chain(codes(1).filter(|c| c.k() == 1)).map(wired) {
+    for code in whole(0).chain(whole(1).filter(|c| c.k() == 1)).map(wired) {
         let count = code.n() / code.group_size();
         assert_eq!(code.groups().len(), count as usize);
         for (number, group) in (0..).zip(code.groups()) {
@@ -152,7 +233,7 @@ fn wired_groups_are_spread() {
 
 #[test]
 fn slots_of_n_or_more_are_refused() {
-    for code in codes(0).chain(codes(0).map(wired)) {
+    for code in codes(0).chain(whole(0).map(wired)) {
         for slot in [code.n(), code.n() + 1, u32::MAX] {
             assert_eq!(code.weights(slot), Err(Refusal::Slot));
             assert_eq!(code.group_of(slot), Err(Refusal::Slot));

@@ -21,6 +21,21 @@ fn wired() -> Code {
 /// Its codeword of 1 1 1 1.
 const WIRED: [u8; 9] = [4, 1, 0, 8, 11, 0, 7, 2, 0];
 
+/// The code S, whose last group is short: slots 9 and 10 with the points 8 and 11; 7 is missing.
+fn short() -> Code {
+    code(0, 2, 11, 5)
+}
+
+/// Its codeword of 1 2 3 4 5.
+const SHORT: [u8; 11] = [5, 10, 12, 11, 4, 9, 4, 8, 7, 5, 7];
+
+/// The marks of its losses.
+fn marked_short(lost: &[usize]) -> [u8; 11] {
+    let mut marks = [0; 11];
+    lost.iter().for_each(|&p| marks[p] = 1);
+    marks
+}
+
 fn encoded(code: Code, message: &[u8]) -> Result<Vec<u8>, Refusal> {
     let mut codeword = vec![0; code.n() as usize];
     code.encode(message, &mut codeword).map(|()| codeword)
@@ -144,6 +159,130 @@ fn decodes_and_grades_wired() {
     assert_eq!(all, Err(Refusal::Undecided));
     // The codeword of wiring 0 is foreign to wiring 1.
     assert_eq!(wired().decode(&WORD, &[0; 9], &mut message, &mut work), Err(Refusal::Foreign));
+}
+
+#[test]
+fn encodes_short() {
+    assert_eq!(encoded(short(), &[1, 2, 3, 4, 5]).unwrap(), SHORT);
+    assert_eq!(encoded(short(), &[1, 1, 1, 1, 1]).unwrap(), [5, 5, 5, 5, 5, 5, 4, 5, 8, 1, 4]);
+    // g = X^3 - 5 and h = X - 7: the message goes with g, g X, g^2, g^2 X and h.
+    assert_eq!(encoded(short(), &[1, 0, 0, 0, 0]).unwrap(), [9, 9, 9, 3, 3, 3, 7, 7, 7, 0, 0]);
+    assert_eq!(encoded(short(), &[0, 1, 0, 0, 0]).unwrap(), [9, 1, 3, 6, 5, 2, 2, 6, 5, 0, 0]);
+    assert_eq!(encoded(short(), &[0, 0, 1, 0, 0]).unwrap(), [3, 3, 3, 9, 9, 9, 10, 10, 10, 0, 0]);
+    assert_eq!(encoded(short(), &[0, 0, 0, 1, 0]).unwrap(), [3, 9, 1, 5, 2, 6, 1, 3, 9, 0, 0]);
+    assert_eq!(encoded(short(), &[0, 0, 0, 0, 1]).unwrap(), [7, 9, 2, 8, 12, 11, 10, 5, 3, 1, 4]);
+    // Two and three missing points, bytes, and a code that is one short group.
+    assert_eq!(encoded(code(0, 3, 6, 3), &[1, 2, 3]).unwrap(), [4, 10, 8, 3, 8, 12]);
+    assert_eq!(encoded(code(0, 5, 9, 6), &[1, 2, 3, 4, 5, 6]).unwrap(), [6, 4, 8, 0, 4, 10, 6, 4, 10]);
+    assert_eq!(encoded(code(1, 4, 8, 5), &[1, 2, 3, 4, 255]).unwrap(), [184, 218, 169, 88, 134, 218, 144, 126]);
+    assert_eq!(encoded(code(1, 4, 3, 2), &[1, 2]).unwrap(), [30, 202, 144]);
+    assert_eq!(encoded(short(), &[1, 2, 3, 4]), Err(Refusal::Length));
+    assert_eq!(encoded(short(), &[1, 2, 3, 4, 13]), Err(Refusal::Symbol));
+}
+
+#[test]
+fn repairs_short() {
+    assert_eq!((short().repair(9, &[7]), short().repair(10, &[5])), (Ok(5), Ok(7)));
+    assert_eq!(short().repair(8, &[4, 8]), Ok(7));
+    assert_eq!(short().weights(9).unwrap()[..3], [10, 0, 0]);
+    assert_eq!(short().weights(10).unwrap()[..3], [4, 0, 0]);
+    assert_eq!(short().weights(8).unwrap()[..3], [10, 4, 0]);
+    let mut strip = [0; 3];
+    short().rebuild(9, &[7, 4, 0], &mut strip).unwrap();
+    assert_eq!(strip, [5, 1, 0]);
+    let bytes = code(1, 4, 8, 5);
+    assert_eq!(bytes.weights(7).unwrap()[..3], [146, 221, 0]);
+    assert_eq!(bytes.repair(7, &[218, 144]), Ok(126));
+    bytes.rebuild(6, &[10, 0, 1, 200, 0, 2], &mut strip).unwrap();
+    assert_eq!(strip, [130, 0, 201]);
+    // The last group has one mate for each slot, others have two, and two are wanted for what is no slot.
+    assert_eq!(short().repair(9, &[7, 7]), Err(Refusal::Length));
+    assert_eq!(short().repair(8, &[4]), Err(Refusal::Length));
+    assert_eq!(short().repair(11, &[7]), Err(Refusal::Length));
+    assert_eq!(short().repair(11, &[7, 7]), Err(Refusal::Slot));
+    assert_eq!(short().repair(10, &[13]), Err(Refusal::Symbol));
+    assert_eq!(short().rebuild(10, &[5; 6], &mut strip), Err(Refusal::Length));
+    assert_eq!(short().rebuild(11, &[5; 3], &mut strip), Err(Refusal::Length));
+    assert_eq!(short().rebuild(11, &[5; 6], &mut strip), Err(Refusal::Slot));
+}
+
+#[test]
+fn works_by_groups_short() {
+    assert_eq!(short().view(9, &SHORT).unwrap(), [5, 7]);
+    assert_eq!(short().view(10, &SHORT).unwrap(), [5, 7]);
+    assert_eq!(short().view(8, &SHORT).unwrap(), [4, 8, 7]);
+    assert_eq!(short().view(11, &SHORT), Err(Refusal::Slot));
+    // Groups 0 and 3 have one loss each, group 1 has two.
+    let (mut word, mut marks) = (SHORT, marked_short(&[0, 3, 4, 9]));
+    [0, 3, 4, 9].into_iter().for_each(|p| word[p] = 99);
+    assert_eq!(short().local_pass(&mut word, &mut marks), Ok(2));
+    assert_eq!((word, marks), ([5, 10, 12, 99, 99, 9, 4, 8, 7, 5, 7], marked_short(&[3, 4])));
+    // With both of its slots lost the last group has none that mends it.
+    let (mut word, mut marks) = (SHORT, marked_short(&[9, 10]));
+    assert_eq!(short().local_pass(&mut word, &mut marks), Ok(0));
+    assert_eq!((word, marks), (SHORT, marked_short(&[9, 10])));
+}
+
+#[test]
+fn decodes_and_grades_short() {
+    let decoded = |lost: &[usize]| {
+        let (mut word, marks) = (SHORT, marked_short(lost));
+        lost.iter().for_each(|&p| word[p] = 99);
+        let (mut message, mut work) = ([0; 5], vec![0; short().work_len()]);
+        let record = short().record(&word, &marks, &mut message, &mut work).unwrap();
+        assert_eq!((record.code, record.lost, record.sure), (short(), lost.len() as u32, 4));
+        let decided = short().decode(&word, &marks, &mut message, &mut work) == Ok(());
+        assert_eq!(record.outcome, if decided { Outcome::Decided } else { Outcome::Undecided });
+        assert!(!decided || message == [1, 2, 3, 4, 5]);
+        assert_eq!(short().grade(&marks), Ok(record.grade));
+        (decided, record.grade, record.first)
+    };
+    assert_eq!(decoded(&[]), (true, 0, None));
+    assert_eq!(decoded(&[0, 3, 6, 10]), (true, 1, None));
+    assert_eq!(decoded(&[9, 10]), (true, 2, Some(3)));
+    assert_eq!(decoded(&[0, 1, 2, 9]), (true, 2, Some(0)));
+    assert_eq!(decoded(&[2, 5, 8, 9, 10]), (true, 3, Some(3)));
+    assert_eq!(decoded(&[0, 1, 2, 9, 10]), (false, 3, Some(0)));
+    assert_eq!(decoded(&[0, 1, 2, 3, 4]), (false, 3, Some(0)));
+    let (mut word, mut message, mut work) = (SHORT, [0; 5], vec![0; short().work_len()]);
+    word[10] = 8;
+    assert_eq!(short().decode(&word, &[0; 11], &mut message, &mut work), Err(Refusal::Foreign));
+}
+
+#[test]
+fn refuses_short_codes() {
+    let refusal = |field, r, n, k, wiring| Code::with_wiring(field, r, n, k, wiring).err().map(Refusal::number);
+    // One slot is no group, and r 1 leaves no other remainder.
+    assert_eq!((refusal(0, 2, 1, 1, 0), refusal(0, 2, 10, 4, 0), refusal(0, 1, 11, 5, 0)), (Some(3), Some(3), Some(3)));
+    assert_eq!(
+        (refusal(0, 2, 0, 0, 0), refusal(0, 2, 14, 5, 0), refusal(1, 16, 257, 5, 0)),
+        (Some(3), Some(3), Some(3))
+    );
+    // k is from s - 1 to n less the groups.
+    assert_eq!((refusal(0, 2, 11, 0, 0), refusal(0, 2, 11, 1, 0)), (Some(4), None));
+    assert_eq!((refusal(0, 2, 11, 7, 0), refusal(0, 2, 11, 8, 0)), (None, Some(4)));
+    assert_eq!((refusal(1, 4, 8, 1, 0), refusal(1, 4, 8, 2, 0)), (Some(4), None));
+    assert_eq!((refusal(1, 4, 3, 1, 0), refusal(1, 4, 3, 2, 0), refusal(1, 4, 3, 3, 0)), (Some(4), None, Some(4)));
+    // A short last group wants wiring 0, and 4 is asked before.
+    assert_eq!((refusal(0, 2, 11, 5, 1), refusal(0, 2, 11, 5, 2)), (Some(17), Some(17)));
+    assert_eq!(refusal(0, 2, 11, 8, 1), Some(4));
+}
+
+#[test]
+fn reads_and_writes_short_sheets() {
+    let (mut sheet, mut text) = ([0; 52], [0; 1032]);
+    short().write_sheet(&SHORT, &marked_short(&[0, 9]), &mut sheet).unwrap();
+    assert_eq!(sheet[..12], [0x10, 2, 11, 5, 0x30, 0, 0, 0, 0x20, 0, 1, 10]);
+    assert_eq!(sheet[40..], [0x30, 0, 9, 0, 0x20, 0, 10, 7, 0x40, 0, 0, 11]);
+    let (mut word, mut marks) = ([9; 255], [9; 255]);
+    assert_eq!(read_sheet(&sheet, &mut word, &mut marks), Ok(short()));
+    assert_eq!(word[..12], [0, 10, 12, 11, 4, 9, 4, 8, 7, 0, 7, 9]);
+    let length = report(&sheet, &mut text).unwrap();
+    assert_eq!(&text[..length], b"code 0 2 11 5\nlost 2 sure 4 grade 1 first 255\nmessage 1 2 3 4 5\n");
+    sheet[0] = 0x18;
+    assert_eq!(read_sheet(&sheet, &mut word, &mut marks), Err(Refusal::Wiring));
+    sheet[3] = 8;
+    assert_eq!(read_sheet(&sheet, &mut word, &mut marks), Err(Refusal::K));
 }
 
 #[test]

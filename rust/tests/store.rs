@@ -135,6 +135,32 @@ fn spreads_the_groups() {
 }
 
 #[test]
+fn keeps_a_short_group() {
+    let place = stored(998, "4 8 5");
+    assert_eq!(place.bytes("d/stripe.txt"), b"latsefidy store 1\ncode 1 4 8 5\nbytes 998\n");
+    let said = place.run(0, "lose d 0 7");
+    assert!(said.ends_with("lose: 2 of 8 drives gone: each is rebuilt from at most 4 others\n"), "{said}");
+    let said = place.run(0, "load d g");
+    let rebuilt = "load: drive 0 rebuilt from drives 1 2 3 4\nload: drive 7 rebuilt from drives 5 6\n";
+    assert!(said.starts_with(rebuilt), "{said}");
+    assert_eq!(place.bytes("g"), noise(998));
+    place.run(0, "lose d 5 6");
+    place.refused(1, "load d h", "load: stripe 0 refused 10");
+    // Two of its three drives are as many as the guarantee.
+    let place = stored(998, "4 8 5");
+    let said = place.run(0, "lose d 5 6");
+    assert!(said.ends_with("lose: 2 of 8 drives gone: within the guarantee of 2, the file still loads\n"), "{said}");
+    place.run(0, "load d g");
+    assert_eq!(place.bytes("g"), noise(998));
+    // The one group of two drives.
+    let said = place.run(0, "store f two 2 2 1");
+    assert!(said.ends_with("; one lost drive is rebuilt from 1 other\n"), "{said}");
+    place.run(0, "lose two 0");
+    assert!(place.run(0, "load two h").starts_with("load: drive 0 rebuilt from drives 1\n"));
+    assert_eq!(place.bytes("h"), noise(998));
+}
+
+#[test]
 fn says_what_it_did() {
     let place = Place::new();
     place.file("f", &noise(12_345));
@@ -234,6 +260,8 @@ fn store_leaves_what_is_there() {
     place.refused(2, "store f no/where", "store: cannot write no/where");
     place.refused(1, "store f new 4 20 17", "code 1 4 20 17 0: refused 4: k is not from 1 to r * n / (r + 1)");
     place.refused(1, "store f new 4 20 12 2", "code 1 4 20 12 2: refused 17: the wiring is above 1");
+    place.refused(1, "store f new 4 18 10 1", "code 1 4 18 10 1: refused 17: the wiring is above 1, or 1 with n no");
+    place.refused(1, "store f new 4 16 10", "code 1 4 16 10 0: refused 3: n is not from 1 to q - 1, or 1 more than");
     place.refused(1, "store f new 4 20 12 x", "WIRING is \"x\"");
     place.refused(1, "store f new 4 20 x", "K is \"x\"");
     place.refused(1, "store f new 4 +20 12", "N is \"+20\"");

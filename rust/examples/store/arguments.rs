@@ -16,6 +16,8 @@ lose   deletes drives
 load   gets the file back from the drives that are there; FILE must be new
 
 WIRING 0 has the drives of a group side by side; WIRING 1 spreads them, for drives on shelves.
+Groups have R + 1 drives. Under WIRING 0 the last one may have fewer, but not 1: N 18 with R 4 has
+groups of 5 5 5 3.
 A wrong byte on a drive that claims to be sound is not found unless decode happens to refuse it (9).
 A run that fails removes what it made. One that is interrupted does not: it leaves drives without a
 stripe.txt, which are no store, or a FILE that may be short.

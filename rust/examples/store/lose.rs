@@ -39,10 +39,10 @@ pub fn lose(folder: &Path, slots: &[OsString]) -> Result<(), Trouble> {
 
 fn summary(code: Code, marks: &[u8]) -> Result<String, Trouble> {
     let grade = code.grade(marks).map_err(|refusal| Trouble::Refused(refusal.to_string()))?;
-    let (n, r, sure) = (code.n(), code.r(), code.guarantee());
+    let (n, sure, others) = (code.n(), code.guarantee(), stripe::others(code));
     let gone = marks.iter().filter(|&&mark| mark == 1).count();
     let meaning = match grade {
-        0 | 1 => format!("each is rebuilt from {r} others"),
+        0 | 1 => format!("each is rebuilt from {others}"),
         2 => format!("within the guarantee of {sure}, the file still loads"),
         _ => format!("past the guarantee of {sure}, the file may not load"),
     };

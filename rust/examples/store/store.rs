@@ -44,9 +44,9 @@ pub fn store(file: &Path, folder: &Path, code: Code) -> Result<(), Trouble> {
 
 fn summary(stripe: &Stripe, speed: &str) -> String {
     let (code, bytes, each) = (stripe.code, grouped(stripe.bytes), grouped(stripe.codewords()));
-    let (n, r, sure) = (code.n(), code.r(), code.guarantee());
+    let (n, sure, others) = (code.n(), code.guarantee(), stripe::others(code));
     format!(
         "store: {bytes} bytes on {n} drives of {each} bytes: {speed} (file bytes encoded and written a second)\n\
-         store: any {sure} drives can be lost and the file still loads; one lost drive is rebuilt from {r} others"
+         store: any {sure} drives can be lost and the file still loads; one lost drive is rebuilt from {others}"
     )
 }

@@ -19,6 +19,13 @@ pub fn drive(folder: &Path, slot: u32) -> PathBuf {
     folder.join(format!("drive-{slot}"))
 }
 
+/// What a lost drive is rebuilt from; one of a short last group has fewer others.
+pub fn others(code: Code) -> String {
+    let (most, least) = (code.group_size().min(code.n()) - 1, code.last_group_size() - 1);
+    let (bound, plural) = (if least < most { "at most " } else { "" }, if most == 1 { "" } else { "s" });
+    format!("{bound}{most} other{plural}")
+}
+
 impl Stripe {
     /// The number of codewords, which is the length of a drive.
     pub fn codewords(&self) -> usize {
