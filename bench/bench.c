@@ -10,6 +10,11 @@
 
 int wide;
 
+const struct level levels[LEVELS] = {
+    {"x86-64", latsefidy_encode, latsefidy_decode, latsefidy_local_pass, latsefidy_rebuild, 0},
+    {"v3", latsefidy_encode_v3, latsefidy_decode_v3, latsefidy_local_pass_v3, latsefidy_rebuild_v3, 0},
+    {"v4", latsefidy_encode_v4, latsefidy_decode_v4, latsefidy_local_pass_v4, latsefidy_rebuild_v4, 1}};
+
 static double seconds(clockid_t clock) {
     struct timespec t;
     clock_gettime(clock, &t);
@@ -32,6 +37,10 @@ uint8_t power(uint8_t a, int e) {
     return p;
 }
 
+/* ISA-L's functions for AVX-512 leave the upper halves of the vector registers in use, and code for plain x86-64 that comes
+   after them then runs at a half or a third of its speed */
+void clear_upper(void) { __asm__ volatile("vzeroupper"); }
+
 void race(contestant *who, int count, int rounds, double turn) {
     int calls[32];
     for (int k = 0; k < count; k++) {
@@ -45,11 +54,36 @@ void race(contestant *who, int count, int rounds, double turn) {
     for (int round = 0; round < rounds; round++)
         for (int k = 0; k < count; k++) {
             if (who[k].needs && !wide) continue;
+            clear_upper();
             double t = now();
             for (int i = 0; i < calls[k]; i++) who[k].call();
             t = (now() - t) / calls[k];
             if (t < who[k].best) who[k].best = t;
         }
+}
+
+static int by_size(const void *a, const void *b) {
+    double x = *(const double *)a, y = *(const double *)b;
+    return (x > y) - (x < y);
+}
+
+void take_turns(int (*call)(int), double median[2]) {
+    static const double turn = 2e-4; /* seconds, about */
+    static double times[2][TURNS];
+    double t = own_time();
+    call(0);
+    t = own_time() - t;
+    int calls = t > turn ? 1 : 1 + (int)(turn / (t + 1e-8));
+    for (int i = 0; i < 2 * TURNS; i++) {
+        int w = i % 2;
+        t = own_time();
+        for (int c = 0; c < calls; c++) call(w);
+        times[w][i / 2] = (own_time() - t) / calls;
+    }
+    for (int w = 0; w < 2; w++) {
+        qsort(times[w], TURNS, sizeof times[w][0], by_size);
+        median[w] = times[w][TURNS / 2];
+    }
 }
 
 void differs(const char *name) {
@@ -80,7 +114,8 @@ int main(int argc, char **argv) {
     struct {
         const char *name;
         void (*print)(void);
-    } tables[] = {{"rebuild", rebuild}, {"lengths", lengths}, {"stripes", stripes}, {"strips", strips}, {"wired", wired}};
+    } tables[] = {{"rebuild", rebuild}, {"lengths", lengths}, {"stripes", stripes},
+                  {"strips", strips},   {"wired", wired},     {"short", short_groups}};
     wide = __builtin_cpu_supports("avx512bw") && __builtin_cpu_supports("avx512vl") && __builtin_cpu_supports("avx512dq");
     for (size_t a = 0; a < sizeof tables / sizeof *tables; a++) {
         int named = argc == 1;

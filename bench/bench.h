@@ -26,7 +26,16 @@ LEVEL()
 LEVEL(_v3)
 LEVEL(_v4)
 
-enum { N = 255 };
+enum { N = 255, LEVELS = 3, TURNS = 201 };
+
+extern const struct level {
+    const char *name;
+    __typeof__(latsefidy_encode) *encode;
+    __typeof__(latsefidy_decode) *decode;
+    __typeof__(latsefidy_local_pass) *pass;
+    __typeof__(latsefidy_rebuild) *rebuild;
+    int needs; /* AVX-512 */
+} levels[LEVELS];
 
 extern int wide; /* the machine has what x86-64-v4 asks */
 
@@ -39,8 +48,12 @@ typedef struct {
 
 double now(void);
 double own_time(void); /* of this thread alone; a look at it takes 0.2 microseconds */
+void clear_upper(void); /* before a turn: what the one before left in the vector registers */
 /* the best time of each, over rounds in which each has its turn for about so many seconds */
 void race(contestant *who, int count, int rounds, double turn);
+/* the median times of call(0) and call(1), by the thread's own time: turns of the two are taken one after the other, so that a
+   slow stretch of the machine falls on both */
+void take_turns(int (*call)(int), double median[2]);
 _Noreturn void differs(const char *name);
 
 /* bytes with polynomial 11D, bit by bit */
@@ -58,5 +71,6 @@ void lengths(void);
 void stripes(void);
 void strips(void);
 void wired(void);
+void short_groups(void);
 
 #endif

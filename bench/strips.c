@@ -17,7 +17,6 @@ enum {
     PASSES = 3,
     CODES = 3,
     LAYOUTS = 3,
-    LEVELS = 3,
     ISAL = LEVELS,
     ALL
 };
@@ -32,15 +31,6 @@ static const struct {
     const char *name;
     int stripes, strips; /* how many stripes; whether in strips */
 } layouts[LAYOUTS] = {{"strips of 4 KB", 4096, 1}, {"strips of 64 KB", LONG, 1}, {"end to end", 4096, 0}};
-
-static const struct {
-    const char *name;
-    __typeof__(latsefidy_encode) *encode;
-    __typeof__(latsefidy_decode) *decode;
-    int needs; /* AVX-512 */
-} levels[LEVELS] = {{"x86-64", latsefidy_encode, latsefidy_decode, 0},
-                    {"v3", latsefidy_encode_v3, latsefidy_decode_v3, 0},
-                    {"v4", latsefidy_encode_v4, latsefidy_decode_v4, 1}};
 
 /* the code, its losses, and what ISA-L is given before the clock starts */
 static int r, n, k, slots[N];
@@ -156,6 +146,7 @@ static double turn(int who, int decoding, int c) {
     int count = who == ISAL ? stripe_count : TURN;
     refused = 0;
     memset(made, 0xaa, (size_t)(decoding ? k : n) * (stripe_count + GAP));
+    clear_upper();
     if (who != ISAL) work(who, decoding, c - TURN);
     double t = own_time();
     work(who, decoding, c);

@@ -1,25 +1,11 @@
-/* Wired: the calls of a code under wiring 0 and wiring 1, over bytes. Under both the same members of the same groups are lost.
-   Turns of the two are taken one after the other, and each time is the median of its turns, so that a slow stretch of the
-   machine falls on both; the clock is the thread's own time. What a call makes is compared with the plain reference. */
+/* Wired: the calls of a code under wiring 0 and wiring 1, over bytes, in turns. Under both the same members of the same groups
+   are lost. What a call makes is compared with the plain reference. */
 #include "bench.h"
 #include <stdio.h>
 #include <stdlib.h>
 #include <string.h>
 
-enum { LEVELS = 3, TURNS = 201, LONG = 4096, CODES = 3 };
-static const double TURN = 2e-4; /* seconds, about */
-
-static const struct {
-    const char *name;
-    __typeof__(latsefidy_encode) *encode;
-    __typeof__(latsefidy_decode) *decode;
-    __typeof__(latsefidy_local_pass) *pass;
-    __typeof__(latsefidy_rebuild) *rebuild;
-    int needs; /* AVX-512 */
-} levels[LEVELS] = {
-    {"x86-64", latsefidy_encode, latsefidy_decode, latsefidy_local_pass, latsefidy_rebuild, 0},
-    {"v3", latsefidy_encode_v3, latsefidy_decode_v3, latsefidy_local_pass_v3, latsefidy_rebuild_v3, 0},
-    {"v4", latsefidy_encode_v4, latsefidy_decode_v4, latsefidy_local_pass_v4, latsefidy_rebuild_v4, 1}};
+enum { LONG = 4096, CODES = 3 };
 
 static const int codes[CODES][3] = {{16, 255, 240}, {4, 20, 12}, {4, 60, 40}};
 
@@ -96,29 +82,6 @@ static int rebuild_strip(int w) {
 static int rebuilt(int w) { return (void)w, !memcmp(out, strip, columns); }
 
 /* ---- the races */
-
-static int by_size(const void *a, const void *b) {
-    double x = *(const double *)a, y = *(const double *)b;
-    return (x > y) - (x < y);
-}
-
-static void take_turns(int (*call)(int), double median[2]) {
-    static double times[2][TURNS];
-    double t = own_time();
-    call(0);
-    t = own_time() - t;
-    int calls = t > TURN ? 1 : 1 + (int)(TURN / (t + 1e-8));
-    for (int i = 0; i < 2 * TURNS; i++) {
-        int w = i % 2;
-        t = own_time();
-        for (int c = 0; c < calls; c++) call(w);
-        times[w][i / 2] = (own_time() - t) / calls;
-    }
-    for (int w = 0; w < 2; w++) {
-        qsort(times[w], TURNS, sizeof times[w][0], by_size);
-        median[w] = times[w][TURNS / 2];
-    }
-}
 
 static void row(const char *name, int (*call)(int), int (*right)(int)) {
     printf("%3d %4d %4d  %-28s", r, n, k, name);
