@@ -1,6 +1,6 @@
 -- Places by group and member, for either wiring: what all else rests on. Assumes nothing.
 --   slot-at-is                                     the two forms of a place
---   size-least, groups-least, n-room, k-room, room-less, missing-less    the numbers of a placed shape
+--   size-least, groups-least, n-room, slot-room, k-room, room-less, missing-less    the numbers of a placed shape
 --   group-below, member-below, slot-below          a place's group and member, and back
 --   slot-group-member, group-slot-at, member-slot-at
 --   same-place, slot-at-later, slot-at-injective   one place by its group and member; the members in order
@@ -49,6 +49,9 @@ module _ (s : Shape) (P : Placed s) where
   unfolding room groups ceiling
   n-room =
       omega (arith, div-add-mod' (s .n + size s - 1) (size s), mod-lt (s .n + size s - 1) size-least, size-least)
+
+  pub slot-room : (p : ℕ) → p < s .n → p < room s
+  slot-room p h = omega (arith, n-room)
 
   pub k-room : s .k + s .tolerance * groups s ≤ s .n → s .k + missing s + s .tolerance * groups s ≤ room s
   unfolding missing

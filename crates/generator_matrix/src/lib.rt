@@ -22,7 +22,7 @@ pub fn vanishing_at(shape: Shape, x: u8, powers: &[u8; 255], logs: &[u8; 256]) -
     let mut i = layout::missing_of(shape);
     while i > 0 {
         i -= 1;
-        let factor = arithmetic::sub(field, x, layout::missing_point(shape, i, powers));
+        let factor = arithmetic::sub(field, x, layout::point_of(shape, shape.n + i, powers));
         product = arithmetic::mul(field, factor, product, powers, logs);
     }
     product

@@ -5,25 +5,23 @@
 --   worked-below, worked-point    the same, and the point, by a width that was worked out
 --   mate-size, mate-is, mate-slot    a mate by its member
 --   group-starts, members-left, members-full    a group's members under wiring 0
---   behind-group, behind-member, behind-point    the places behind the last slot
 --   steps-round, steps-below         a mate by the steps from the slot's member on
 use mathlib.Core.Path.{_≡_, sym, ap, ap₂, _∙_}
 use mathlib.Core.Logic.{_≢_, _⊎_, inl, inr}
 use mathlib.Core.Bool.{Bool, true, false, cond}
 use Prim.Native.Nat.{ℕ, suc, _+_, _*_, _-_, _/_, _%_, _≤_, _<_}
-use native.Mathlib.Nat.{div-add-mod', mul-le-mul-right}
+use native.Mathlib.Nat.{mul-le-mul-right}
 use native.Mathlib.Decide.{decLt}
 use native.Mathlib.Omega.{arith}
 use borrow.Author.Tests.{eq-eqb, ne-eqb, lt-ltb, le-ltb}
-use lib.Arith.{digits-div, digits-mod}
 use lib.ListN.{length}
 use Rattle.algebra.specs.Sequence.{at}
 use Rattle.algebra.proofs.Each.{each-index}
 use Rattle.field.specs.Field.{q, γ, power}
 use Rattle.code.specs.declared.Shape.{Shape}
-use Rattle.code.specs.Shape.{size, groups, room, missing, whole, wired, group, member, first, step, members, slot-at, point-at, point, mates}
+use Rattle.code.specs.Shape.{size, groups, room, wired, group, member, first, step, members, slot-at, point-at, point, mates}
 use Rattle.code.specs.Laws.{Placed}
-use Rattle.code.proofs.Places.{size-least, whole-no, group-below, remainder, missing-inside, not-wired, slot-at-is, slot-below, group-slot-at, member-slot-at}
+use Rattle.code.proofs.Places.{size-least, slot-at-is, slot-below, group-slot-at, member-slot-at}
 use Rattle.code.proofs.Bounds.{room-byte}
 use Rattle.code.proofs.Points.{exponent-below}
 use Rattle.code.proofs.Mates.{members-are, first-inside, members-most, length-mates, mates-before, mates-after, mates-below}
@@ -133,32 +131,3 @@ module _ (s : Shape) (P : Placed s) (w : wired s ≡ false) (j : ℕ) (h : j < g
 
   pub members-full : t ≤ s .n - j * t → members s j ≡ size s
   members-full l = members-are s P j (size s) (omega arith) (λ i b. omega (arith, place i, e)) (λ i b d. absurd (omega arith))
-
--- the place that lies i behind the last slot, by a size that was worked out
-module _ (s : Shape) (P : Placed s) (i : ℕ) (h : i < missing s) (t : ℕ) (e : t ≡ size s) where
-  short : whole s ≡ false
-  short = whole-no s (λ z. omega arith)
-
-  pub behind-member : s .n % t + i < size s
-  behind-member = omega (arith, remainder s P short, ap (λ n. s .n % n) e)
-
-  split : s .n + i ≡ s .n / size s * size s + (s .n % size s + i)
-  split = omega (arith, div-add-mod' (s .n) (size s))
-
-  low : s .n % size s + i < size s
-  low = omega (arith, behind-member, ap (λ n. s .n % n) e)
-
-  own-group : group s (s .n + i) ≡ s .n / t
-  unfolding group
-  own-group = ap (λ b. cond b ((s .n + i) % groups s) ((s .n + i) / size s)) (not-wired s P short) ∙ ap (λ n. n / size s) split ∙ digits-div (s .n / size s) low ∙ ap (λ n. s .n / n) (sym e)
-
-  own-member : member s (s .n + i) ≡ s .n % t + i
-  unfolding member
-  own-member = ap (λ b. cond b ((s .n + i) / groups s) ((s .n + i) % size s)) (not-wired s P short) ∙ ap (λ n. n % size s) split ∙ digits-mod (s .n / size s) low ∙ ap (λ n. s .n % n + i) (sym e)
-
-  pub behind-group : s .n / t < groups s
-  behind-group = omega (arith, group-below s P (s .n + i) (missing-inside s P i h), own-group)
-
-  pub behind-point : point-at s (s .n / t) (s .n % t + i) ≡ point s (s .n + i)
-  unfolding point
-  behind-point = sym (ap₂ (point-at s) own-group own-member)

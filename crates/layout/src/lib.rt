@@ -118,26 +118,26 @@ pub fn slot_at(shape: Shape, group: u32, member: u32) -> u32
     first_of(shape, group) + member * step_of(shape)
 }
 
-// The group of a slot.
-pub fn group_of(shape: Shape, slot: u32) -> u32
-    requires { ⌜ Placed shape × (slot < shape .n) ⌝ }
-    ensures { λ x. ⌜ (x ≡ group shape slot) × (x < groups shape) ⌝ }
+// The group of a place.
+pub fn group_of(shape: Shape, place: u32) -> u32
+    requires { ⌜ Placed shape × (place < room shape) ⌝ }
+    ensures { λ x. ⌜ (x ≡ group shape place) × (x < groups shape) ⌝ }
 {
     if shape.wiring == 1 {
-        return slot % groups_of(shape);
+        return place % groups_of(shape);
     }
-    slot / size_of(shape)
+    place / size_of(shape)
 }
 
-// The member of its group that a slot is.
-pub fn member_of(shape: Shape, slot: u32) -> u32
-    requires { ⌜ Placed shape × (slot < shape .n) ⌝ }
-    ensures { λ x. ⌜ (x ≡ member shape slot) × (x < size shape) ⌝ }
+// The member of its group that a place is.
+pub fn member_of(shape: Shape, place: u32) -> u32
+    requires { ⌜ Placed shape × (place < room shape) ⌝ }
+    ensures { λ x. ⌜ (x ≡ member shape place) × (x < size shape) ⌝ }
 {
     if shape.wiring == 1 {
-        return slot / groups_of(shape);
+        return place / groups_of(shape);
     }
-    slot % size_of(shape)
+    place % size_of(shape)
 }
 
 // How far apart the exponents of the points of a group's members are: (q - 1) / size.
@@ -164,22 +164,17 @@ pub fn point_at(shape: Shape, group: u32, member: u32, powers: &[u8; 255]) -> u8
     member_point(shape.field, width_of(shape), group, member, powers)
 }
 
-// The evaluation point of a slot.
-pub fn point_of(shape: Shape, slot: u32, powers: &[u8; 255]) -> u8
-    requires { ⌜ Powers 1 (now powers) × Placed shape × (slot < shape .n) ⌝ }
-    ensures { λ x. ⌜ x ≡ point shape slot ⌝ }
+// The evaluation point of a place: of a slot, or of a missing member of a short last group.
+pub fn point_of(shape: Shape, place: u32, powers: &[u8; 255]) -> u8
+    requires { ⌜ Powers 1 (now powers) × Placed shape × (place < room shape) ⌝ }
+    ensures { λ x. ⌜ x ≡ point shape place ⌝ }
 {
-    point_at(shape, group_of(shape, slot), member_of(shape, slot), powers)
-}
-
-// The evaluation point of the place that lies i behind the last slot: a missing member of a short last group.
-pub fn missing_point(shape: Shape, i: u32, powers: &[u8; 255]) -> u8
-    requires { ⌜ Powers 1 (now powers) × Placed shape × (i < missing shape) ⌝ }
-    ensures { λ x. ⌜ x ≡ point shape (shape .n + i) ⌝ }
-{
-    let n = shape.n;
-    let size = size_of(shape);
-    point_at(shape, n / size, n % size + i, powers)
+    point_at(
+        shape,
+        group_of(shape, place),
+        member_of(shape, place),
+        powers,
+    )
 }
 
 // The member of a group of which member is one that is its mate i: members in order, but for member.

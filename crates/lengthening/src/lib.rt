@@ -55,7 +55,7 @@ fn tail_of(
     while i > 0 {
         i -= 1;
         to += 1;
-        let y = layout::missing_point(shape, i, powers);
+        let y = layout::point_of(shape, shape.n + i, powers);
         mul_root(field, &mut coefs, to, y, powers, logs);
     }
     coefs

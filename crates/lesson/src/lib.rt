@@ -2,7 +2,7 @@
 ghost use Prim.Native.Nat.{_<_, _≤_};
 ghost use lib.ListN.{length};
 ghost use Rattle.code.specs.Laws.{Placed, Mending};
-ghost use Rattle.code.specs.Shape.{groups};
+ghost use Rattle.code.specs.Shape.{size, groups};
 use code::Shape;
 use console::text::end_line;
 use console::text::put;
@@ -34,15 +34,14 @@ fn put_powers(text: &mut [u8], at: usize) -> usize {
     next
 }
 
-// The points of a group's slots.
-fn put_points(text: &mut [u8], at: usize, shape: Shape, group: u32) -> usize
-    requires { ⌜ Placed shape × (group < groups shape) ⌝ }
+// The points of a group's members from one up to another.
+fn put_points(text: &mut [u8], at: usize, shape: Shape, group: u32, from: u32, to: u32) -> usize
+    requires { ⌜ Placed shape × (group < groups shape) × (to ≤ size shape) ⌝ }
 {
     let powers = tables::power_table();
-    let members = layout::members_of(shape, group);
     let mut next = at;
-    let mut i: u32 = 0;
-    while i < members {
+    let mut i = from;
+    while i < to {
         next = put_spaced(text, next, wide(layout::point_at(shape, group, i, &powers)));
         i += 1;
     }
@@ -100,30 +99,19 @@ fn put_along(text: &mut [u8], at: usize, shape: Shape) -> usize
     end_line(text, next)
 }
 
-// The missing points.
-fn put_missing_points(text: &mut [u8], at: usize, shape: Shape) -> usize
-    requires { ⌜ Placed shape ⌝ }
-{
-    let powers = tables::power_table();
-    let missing = layout::missing_of(shape);
-    let mut next = at;
-    let mut i: u32 = 0;
-    while i < missing {
-        next = put_spaced(text, next, wide(layout::missing_point(shape, i, &powers)));
-        i += 1;
-    }
-    next
-}
-
-// The word missing and the missing points, of a short group alone.
-fn put_missing(text: &mut [u8], at: usize, shape: Shape, group: u32) -> usize
+// The points of a group's slots, and of a short group the word missing and its missing points.
+fn put_group_points(text: &mut [u8], at: usize, shape: Shape, group: u32) -> usize
     requires { ⌜ Placed shape × (group < groups shape) ⌝ }
 {
-    if layout::members_of(shape, group) == layout::size_of(shape) {
-        return at;
+    let members = layout::members_of(shape, group);
+    let size = layout::size_of(shape);
+    let mut next = put(text, at, b" points");
+    next = put_points(text, next, shape, group, 0, members);
+    if members == size {
+        return next;
     }
-    let next = put(text, at, b" missing");
-    put_missing_points(text, next, shape)
+    next = put(text, next, b" missing");
+    put_points(text, next, shape, group, members, size)
 }
 
 // The line of a group.
@@ -132,9 +120,7 @@ fn put_group(text: &mut [u8], at: usize, shape: Shape, group: u32) -> usize
 {
     let mut next = put_named(text, at, b"group", group);
     next = put_spread(text, next, shape, group);
-    next = put(text, next, b" points");
-    next = put_points(text, next, shape, group);
-    next = put_missing(text, next, shape, group);
+    next = put_group_points(text, next, shape, group);
     end_line(text, next)
 }
 
@@ -157,14 +143,14 @@ fn put_factors(text: &mut [u8], at: usize, shape: Shape) -> usize
     requires { ⌜ Placed shape ⌝ }
 {
     let powers = tables::power_table();
-    let missing = layout::missing_of(shape);
+    let room = layout::room_of(shape);
     let mut next = at;
-    let mut i: u32 = 0;
-    while i < missing {
+    let mut place = shape.n;
+    while place < room {
         next = put(text, next, b" (x -");
-        next = put_spaced(text, next, wide(layout::missing_point(shape, i, &powers)));
+        next = put_spaced(text, next, wide(layout::point_of(shape, place, &powers)));
         next = put(text, next, b")");
-        i += 1;
+        place += 1;
     }
     next
 }

@@ -88,7 +88,7 @@ fn last_symbols(shape: Shape, row: &[u8], powers: &[u8; 255], logs: &[u8; 256]) 
     let mut i = layout::missing_of(shape);
     while i > 0 {
         i -= 1;
-        let y = layout::missing_point(shape, i, powers);
+        let y = layout::point_of(shape, shape.n + i, powers);
         div_root(field, &mut coefs, y, powers, logs);
     }
     coefs

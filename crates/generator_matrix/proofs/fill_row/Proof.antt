@@ -1,12 +1,13 @@
 use borrow.Author.Needs.{needs}
 use mathlib.Core.Path.{ap, _∙_}
-use Prim.Native.Nat.{_+_, _-_}
+use Prim.Native.Nat.{_+_, _-_, _<_}
 use native.Mathlib.Omega.{arith}
 use Rattle.field.specs.Field.{γ, minus}
 use Rattle.field.proofs.Laws.{laws}
 use Rattle.field.proofs.Elem.{power-below, gamma-below}
-use Rattle.code.specs.Shape.{missing}
+use Rattle.code.specs.Shape.{room, missing}
 use Rattle.code.specs.Basis.{vanishing}
+use Rattle.code.proofs.Places.{slot-room}
 use Rattle.code.proofs.Points.{point-below}
 use Rattle.code.proofs.Vanishing.{vanish-below}
 use Rattle.generator_matrix.proofs.Generators.{lead-worked, row-whole, row-short}
@@ -19,11 +20,16 @@ cast-r c = search needs
 cast-k : tie.Need-cast-k
 cast-k c = search needs
 
+inside : (s : tie.Start) → s .args .slot < room (s .args .shape)
+inside s = slot-room (s .args .shape) (s .pre .2 .family .placed) (s .args .slot) (s .pre .3)
+
 point-of-requires : tie.Need-point-of-requires
-point-of-requires c κs = search needs
+point-of-requires c κs =
+    let s = c .before .before .before in
+    (s .pre .0, s .pre .2 .family .placed, inside s)
 
 group-of-requires : tie.Need-group-of-requires
-group-of-requires c κs = search needs
+group-of-requires c κs = let s = c .before .before .before .before in (s .pre .2 .family .placed, inside s)
 
 group-power-requires : tie.Need-group-power-requires
 group-power-requires c κs = search needs

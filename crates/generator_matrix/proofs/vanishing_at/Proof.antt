@@ -5,6 +5,8 @@ use native.Mathlib.Omega.{arith}
 use Rattle.field.specs.Field.{minus, times}
 use Rattle.code.specs.Shape.{missing}
 use Rattle.code.specs.Basis.{vanish-from}
+use Rattle.code.proofs.Places.{missing-inside}
+use Rattle.code.proofs.Bounds.{room-byte}
 use Rattle.code.proofs.Vanishing.{vanish-none, vanish-more, vanish-done}
 use Rattle.generator_matrix.proofs.vanishing_at.Statement.{statement}
 use Rattle.generator_matrix.proofs.vanishing_at.Tie as tie
@@ -26,8 +28,15 @@ loop-holds c =
 sub-i : tie.Need-sub-i Inv-loop μ-loop
 sub-i c = omega arith
 
-missing-point-requires : tie.Need-missing-point-requires Inv-loop μ-loop
-missing-point-requires c κs = let s = c .before .before .before in (s .pre .0, s .pre .2, omega arith)
+add-point-of : tie.Need-add-point-of Inv-loop μ-loop
+add-point-of c =
+    let s = c .before .before .before .before in
+    omega (arith, room-byte (s .args .shape) (s .pre .2), missing-inside (s .args .shape) (s .pre .2) (c .before .before .loop .i - 1) (omega (arith, c .before .before .loop .inv .0)))
+
+point-of-requires : tie.Need-point-of-requires Inv-loop μ-loop
+point-of-requires c κs =
+    let s = c .before .before .before .before in
+    (s .pre .0, s .pre .2, missing-inside (s .args .shape) (s .pre .2) (c .before .before .loop .i - 1) (omega (arith, c .before .before .loop .inv .0)))
 
 sub-requires : tie.Need-sub-requires Inv-loop μ-loop
 sub-requires c κs = search needs
@@ -40,12 +49,12 @@ loop-less c = omega arith
 
 loop-again : tie.Need-loop-again Inv-loop μ-loop
 loop-again c =
-    let s = c .before .before .before .before .before .before in
-    let l = c .before .before .before .before .loop in
+    let s = c .before .before .before .before .before .before .before in
+    let l = c .before .before .before .before .before .loop in
     let f = s .args .shape .field in (
       omega arith,
       vanish-more (s .args .shape) (s .args .x) (l .i) (l .i - 1) (l .product) (c .mul .result) (omega arith) (l .inv .0) (l .inv .1)
-          (c .mul .ensures ∙ ap (λ y. times f y (l .product)) (c .before .sub .ensures ∙ ap (minus f (s .args .x)) (c .before .before .missing-point .ensures))),
+          (c .mul .ensures ∙ ap (λ y. times f y (l .product)) (c .before .sub .ensures ∙ ap (minus f (s .args .x)) (c .before .before .point-of .ensures))),
     )
 
 returns : tie.Need-returns Inv-loop μ-loop
@@ -63,7 +72,8 @@ vanishing-at-spec =
     missing-of-requires
     loop-holds
     sub-i
-    missing-point-requires
+    add-point-of
+    point-of-requires
     sub-requires
     mul-requires
     loop-less

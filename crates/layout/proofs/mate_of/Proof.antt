@@ -1,7 +1,7 @@
-use borrow.Author.Needs.{needs}
 use mathlib.Core.Path.{sym, ap, ap₂, _∙_}
 use native.Mathlib.Omega.{arith}
 use Rattle.code.specs.Shape.{group, slot-at}
+use Rattle.code.proofs.Places.{slot-room}
 use Rattle.code.proofs.Mates.{length-mates, members-most}
 use Rattle.layout.specs.Step.{mate-member}
 use Rattle.layout.proofs.Numbers.{mate-size, mate-is, mate-slot}
@@ -9,10 +9,10 @@ use Rattle.layout.proofs.mate_of.Statement.{statement}
 use Rattle.layout.proofs.mate_of.Tie as tie
 
 group-of-requires : tie.Need-group-of-requires
-group-of-requires c κs = search needs
+group-of-requires e κs = (e .pre .0, slot-room (e .args .shape) (e .pre .0) (e .args .slot) (e .pre .1))
 
 member-of-requires : tie.Need-member-of-requires
-member-of-requires c κs = search needs
+member-of-requires c κs = let e = c .before in (e .pre .0, slot-room (e .args .shape) (e .pre .0) (e .args .slot) (e .pre .1))
 
 mate-member-requires : tie.Need-mate-member-requires
 mate-member-requires c κs =

@@ -1,6 +1,7 @@
 use mathlib.Core.Path.{_≡_, ap}
 use native.Mathlib.Omega.{arith}
 use Rattle.code.specs.Shape.{size, group, members}
+use Rattle.code.proofs.Places.{slot-room}
 use Rattle.code.proofs.Bounds.{r-most}
 use Rattle.code.proofs.Mates.{length-mates, mates-number-is, mates-number-none}
 use borrow.Author.Needs.{needs}
@@ -15,7 +16,10 @@ returns c =
     (omega (arith, mates-number-none s (e .args .slot) (c .if1 .taken), e .pre .one), r-most s (e .pre .placed))
 
 group-of-requires : tie.Need-group-of-requires
-group-of-requires c κs = search needs
+group-of-requires c κs =
+    let e = c .before in
+    let s = e .args .shape in
+    (e .pre .placed, slot-room s (e .pre .placed) (e .args .slot) (c .if1 .left))
 
 members-of-requires : tie.Need-members-of-requires
 members-of-requires c κs = search needs

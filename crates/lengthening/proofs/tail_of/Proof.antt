@@ -10,7 +10,8 @@ use Rattle.algebra.proofs.Booleans.{so, yes-true}
 use Rattle.algebra.proofs.Below.{all-below-drop}
 use Rattle.algebra.proofs.Writing.{laid-done, laid-same}
 use Rattle.field.specs.Field.{q}
-use Rattle.code.proofs.Bounds.{r-most}
+use Rattle.code.proofs.Places.{missing-inside}
+use Rattle.code.proofs.Bounds.{r-most, room-byte}
 use Rattle.lengthening.proofs.Tails.{Tailed, tailed-none, tailed-more, tailed-all}
 use Rattle.lengthening.proofs.tail_of.Statement.{statement}
 use Rattle.lengthening.proofs.tail_of.Tie as tie
@@ -56,15 +57,22 @@ add-to c =
     let s = c .before .before .before .before .before .before .before in
     omega (arith, s .pre .3, s .pre .4, r-most (s .args .shape) (s .pre .2), c .before .loop .inv .number, length-drop (s .args .lead) (s .args .message .now))
 
-missing-point-requires : tie.Need-missing-point-requires Inv-loop μ-loop
-missing-point-requires c κs =
-    let s = c .before .before .before .before .before .before .before in
-    (s .pre .0, s .pre .2, omega (arith, c .before .loop .inv .most))
+add-point-of : tie.Need-add-point-of Inv-loop μ-loop
+add-point-of c =
+    let s = c .before .before .before .before .before .before .before .before in
+    let l = c .before .before .loop in
+    omega (arith, room-byte (s .args .shape) (s .pre .2), missing-inside (s .args .shape) (s .pre .2) (l .i - 1) (omega (arith, l .inv .most)))
+
+point-of-requires : tie.Need-point-of-requires Inv-loop μ-loop
+point-of-requires c κs =
+    let s = c .before .before .before .before .before .before .before .before in
+    let l = c .before .before .loop in
+    (s .pre .0, s .pre .2, missing-inside (s .args .shape) (s .pre .2) (l .i - 1) (omega (arith, l .inv .most)))
 
 mul-root-requires : tie.Need-mul-root-requires Inv-loop μ-loop
 mul-root-requires c κs =
-    let s = c .before .before .before .before .before .before .before .before .before in
-    let I = c .before .before .before .loop .inv in
+    let s = c .before .before .before .before .before .before .before .before .before .before in
+    let I = c .before .before .before .before .loop .inv in
     (s .pre .0, s .pre .1, I .room, omega (arith, s .pre .3, s .pre .4, r-most (s .args .shape) (s .pre .2), I .number, length-drop (s .args .lead) (s .args .message .now)))
 
 loop-less : tie.Need-loop-less Inv-loop μ-loop
@@ -72,17 +80,17 @@ loop-less c = omega arith
 
 loop-again : tie.Need-loop-again Inv-loop μ-loop
 loop-again c =
-    let s = c .before .before .before .before .before .before .before .before .before .before in
+    let s = c .before .before .before .before .before .before .before .before .before .before .before in
     let a = s .args in
     let bs = drop (a .lead) (a .message .now) in
-    let l = c .before .before .before .before .loop in
+    let l = c .before .before .before .before .before .loop in
     let i = l .i - 1 in
     let e : l .i ≡ suc i = omega arith in
     let n : l .to + 1 ≡ suc (l .to) = omega arith in
     let m = c .mul-root in
     rw n
-    (tailed-more (a .shape) bs i (l .to) (c .before .before .missing-point .result) (l .coefs) _
-    (subst (λ i. Tailed (a .shape) bs i (l .to) (l .coefs)) e (l .inv)) (c .before .before .missing-point .ensures)
+    (tailed-more (a .shape) bs i (l .to) (c .before .before .point-of .result) (l .coefs) _
+    (subst (λ i. Tailed (a .shape) bs i (l .to) (l .coefs)) e (l .inv)) (c .before .before .point-of .ensures)
     (omega (arith, s .pre .3, s .pre .4, r-most (a .shape) (s .pre .2), l .inv .number, length-drop (a .lead) (a .message .now))) (rw n at (m .ensures)))
 
 returns : tie.Need-returns Inv-loop μ-loop
@@ -105,7 +113,8 @@ tail-of-spec =
     loop-holds
     sub-i
     add-to
-    missing-point-requires
+    add-point-of
+    point-of-requires
     mul-root-requires
     loop-less
     loop-again

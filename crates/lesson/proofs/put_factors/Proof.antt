@@ -7,16 +7,16 @@ use Rattle.lesson.proofs.put_factors.Statement.{statement}
 use Rattle.lesson.proofs.put_factors.Tie as tie
 
 abbrev Inv-loop : tie.InvT-loop
-Inv-loop text₀ at shape powers missing next₀ i₀ t7 t8 text next i = length text ≡ length text₀
+Inv-loop text₀ at shape powers room next₀ place₀ t7 t8 text next place = length text ≡ length text₀
 
 abbrev μ-loop : tie.MeasureT-loop
-μ-loop text₀ at shape powers missing next₀ i₀ t7 t8 text next i = missing - i
+μ-loop text₀ at shape powers room next₀ place₀ t7 t8 text next place = room - place
 
 power-table-requires : tie.Need-power-table-requires Inv-loop μ-loop
 power-table-requires c κs = search needs
 
-missing-of-requires : tie.Need-missing-of-requires Inv-loop μ-loop
-missing-of-requires c κs = search needs
+room-of-requires : tie.Need-room-of-requires Inv-loop μ-loop
+room-of-requires c κs = search needs
 
 loop-holds : tie.Need-loop-holds Inv-loop μ-loop
 loop-holds c = refl
@@ -27,8 +27,8 @@ slice-aggregate-put c = search needs
 put-requires : tie.Need-put-requires Inv-loop μ-loop
 put-requires c κs = search needs
 
-missing-point-requires : tie.Need-missing-point-requires Inv-loop μ-loop
-missing-point-requires c κs = search needs
+point-of-requires : tie.Need-point-of-requires Inv-loop μ-loop
+point-of-requires c κs = search needs
 
 wide-requires : tie.Need-wide-requires Inv-loop μ-loop
 wide-requires c κs = search needs
@@ -42,8 +42,8 @@ slice-aggregate-put-2 c = search needs
 put-requires-2 : tie.Need-put-requires-2 Inv-loop μ-loop
 put-requires-2 c κs = search needs
 
-add-i : tie.Need-add-i Inv-loop μ-loop
-add-i c = omega arith
+add-place : tie.Need-add-place Inv-loop μ-loop
+add-place c = omega arith
 
 loop-less : tie.Need-loop-less Inv-loop μ-loop
 loop-less c = omega arith
@@ -64,16 +64,16 @@ put-factors-spec =
     Inv-loop
     μ-loop
     power-table-requires
-    missing-of-requires
+    room-of-requires
     loop-holds
     slice-aggregate-put
     put-requires
-    missing-point-requires
+    point-of-requires
     wide-requires
     put-spaced-requires
     slice-aggregate-put-2
     put-requires-2
-    add-i
+    add-place
     loop-less
     loop-again
     same-length

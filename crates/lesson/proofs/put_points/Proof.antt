@@ -7,16 +7,13 @@ use Rattle.lesson.proofs.put_points.Statement.{statement}
 use Rattle.lesson.proofs.put_points.Tie as tie
 
 abbrev Inv-loop : tie.InvT-loop
-Inv-loop text₀ at shape group powers members next₀ i₀ text next i = length text ≡ length text₀
+Inv-loop text₀ at shape group from to powers next₀ i₀ text next i = length text ≡ length text₀
 
 abbrev μ-loop : tie.MeasureT-loop
-μ-loop text₀ at shape group powers members next₀ i₀ text next i = members - i
+μ-loop text₀ at shape group from to powers next₀ i₀ text next i = to - i
 
 power-table-requires : tie.Need-power-table-requires Inv-loop μ-loop
 power-table-requires c κs = search needs
-
-members-of-requires : tie.Need-members-of-requires Inv-loop μ-loop
-members-of-requires c κs = search needs
 
 loop-holds : tie.Need-loop-holds Inv-loop μ-loop
 loop-holds c = refl
@@ -52,7 +49,6 @@ put-points-spec =
     Inv-loop
     μ-loop
     power-table-requires
-    members-of-requires
     loop-holds
     point-at-requires
     wide-requires

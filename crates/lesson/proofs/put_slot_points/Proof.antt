@@ -3,6 +3,7 @@ use mathlib.Core.Path.{_≡_, refl}
 use Prim.Native.Nat.{_-_}
 use native.Mathlib.Omega.{arith}
 use lib.ListN.{length}
+use Rattle.code.proofs.Places.{n-room}
 use Rattle.lesson.proofs.put_slot_points.Statement.{statement}
 use Rattle.lesson.proofs.put_slot_points.Tie as tie
 
@@ -19,7 +20,10 @@ loop-holds : tie.Need-loop-holds Inv-loop μ-loop
 loop-holds c = refl
 
 point-of-requires : tie.Need-point-of-requires Inv-loop μ-loop
-point-of-requires c κs = search needs
+point-of-requires c κs =
+    let t = c .before .before .before .before .before in
+    let s = t .before .before in
+    (t .power-table .ensures, s .pre, omega (arith, n-room (s .args .shape) (s .pre)))
 
 wide-requires : tie.Need-wide-requires Inv-loop μ-loop
 wide-requires c κs = search needs

@@ -2,6 +2,7 @@ use borrow.Author.Needs.{needs}
 use mathlib.Core.Path.{_≡_, sym, ap, _∙_}
 use Prim.Native.Nat.{_+_, _-_, _≤_}
 use native.Mathlib.Omega.{arith}
+use Rattle.code.proofs.Places.{slot-room}
 use Rattle.code.proofs.Bounds.{n-most}
 use Rattle.code.proofs.Mates.{member-own}
 use Rattle.layout.specs.Step.{span}
@@ -12,7 +13,10 @@ use Rattle.promise.proofs.mates_in.Statement.{statement}
 use Rattle.promise.proofs.mates_in.Tie as tie
 
 group-of-requires : tie.Need-group-of-requires
-group-of-requires c κs = let s = c .before in (s .pre .0 .placed, s .pre .1)
+group-of-requires c κs =
+    let s = c .before in
+    let P = s .pre .0 .placed in
+    (P, slot-room (s .args .shape) P (s .args .slot) (s .pre .1))
 
 first-of-requires : tie.Need-first-of-requires
 first-of-requires c κs = (c .before .before .pre .0 .placed, c .group-of .ensures .1)
@@ -42,7 +46,10 @@ add-end : tie.Need-add-end
 add-end c = omega (arith, within c)
 
 member-of-requires : tie.Need-member-of-requires
-member-of-requires c κs = let s = c .before .before .before .before in (s .pre .0 .placed, s .pre .1)
+member-of-requires c κs =
+    let s = c .before .before .before .before in
+    let P = s .pre .0 .placed in
+    (P, slot-room (s .args .shape) P (s .args .slot) (s .pre .1))
 
 sub-mates-of : tie.Need-sub-mates-of
 sub-mates-of c = omega arith

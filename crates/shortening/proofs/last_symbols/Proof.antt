@@ -7,7 +7,8 @@ use Rattle.algebra.proofs.Booleans.{so}
 use Rattle.algebra.proofs.Below.{all-below-take}
 use Rattle.field.specs.Field.{q}
 use Rattle.code.specs.Shape.{missing}
-use Rattle.code.proofs.Bounds.{r-most}
+use Rattle.code.proofs.Places.{missing-inside}
+use Rattle.code.proofs.Bounds.{r-most, room-byte}
 use Rattle.shortening.proofs.Quotient.{Quotient, quotient-none, quotient-more, quotient-done}
 use Rattle.shortening.proofs.last_symbols.Statement.{statement}
 use Rattle.shortening.proofs.last_symbols.Tie as tie
@@ -43,28 +44,35 @@ loop-holds c =
 sub-i : tie.Need-sub-i Inv-loop μ-loop
 sub-i c = omega arith
 
-missing-point-requires : tie.Need-missing-point-requires Inv-loop μ-loop
-missing-point-requires c κs =
-    let s = c .before .before .before .before .before .before .before .before in
-    (s .pre .0, s .pre .2, omega (arith, c .before .loop .inv .0))
+add-point-of : tie.Need-add-point-of Inv-loop μ-loop
+add-point-of c =
+    let s = c .before .before .before .before .before .before .before .before .before in
+    let l = c .before .before .loop in
+    omega (arith, room-byte (s .args .shape) (s .pre .2), missing-inside (s .args .shape) (s .pre .2) (l .i - 1) (omega (arith, l .inv .0)))
+
+point-of-requires : tie.Need-point-of-requires Inv-loop μ-loop
+point-of-requires c κs =
+    let s = c .before .before .before .before .before .before .before .before .before in
+    let l = c .before .before .loop in
+    (s .pre .0, s .pre .2, missing-inside (s .args .shape) (s .pre .2) (l .i - 1) (omega (arith, l .inv .0)))
 
 div-root-requires : tie.Need-div-root-requires Inv-loop μ-loop
 div-root-requires c κs =
-    let s = c .before .before .before .before .before .before .before .before .before .before in
-    (s .pre .0, s .pre .1, c .before .before .before .loop .inv .1 .size)
+    let s = c .before .before .before .before .before .before .before .before .before .before .before in
+    (s .pre .0, s .pre .1, c .before .before .before .before .loop .inv .1 .size)
 
 loop-less : tie.Need-loop-less Inv-loop μ-loop
 loop-less c = omega arith
 
 loop-again : tie.Need-loop-again Inv-loop μ-loop
 loop-again c =
-    let s = c .before .before .before .before .before .before .before .before .before .before .before in
+    let s = c .before .before .before .before .before .before .before .before .before .before .before .before in
     let a = s .args in
-    let l = c .before .before .before .before .loop in
+    let l = c .before .before .before .before .before .loop in
     let i = l .i - 1 in
     let e : l .i ≡ suc i = omega arith in
     let cs = take (a .shape .r) (a .row .now) in
-    let y = c .before .before .missing-point in (
+    let y = c .before .before .point-of in (
       omega (arith, l .inv .0),
       quotient-more (a .shape) (s .pre .2) cs (l .coefs) (c .div-root .last .1 .0) i (y .result) (omega (arith, l .inv .0)) (y .ensures) (c .div-root .ensures)
           (subst (λ n. Quotient (a .shape) cs n (l .coefs)) e (l .inv .1)),
@@ -92,7 +100,8 @@ last-symbols-spec =
     missing-of-requires
     loop-holds
     sub-i
-    missing-point-requires
+    add-point-of
+    point-of-requires
     div-root-requires
     loop-less
     loop-again

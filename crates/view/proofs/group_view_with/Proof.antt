@@ -7,6 +7,7 @@ use lib.ListN.{take, drop}
 use borrow.Author.Tests.{eq-eqb, ne-eqb}
 use Rattle.code.specs.Shape.{wired, group, first, members}
 use Rattle.code.specs.Laws.{Mending}
+use Rattle.code.proofs.Places.{slot-room}
 use Rattle.layout.proofs.Spans.{span-within}
 use Rattle.view.proofs.Parts.{span-unwired}
 use Rattle.view.specs.View.{view-refusal, part}
@@ -38,7 +39,10 @@ lawful : (c : tie.Else1) → let a = c .before .before .before .args in Mending 
 lawful c = (c .before .before .before .pre (passed c .accepted), passed c .unwired)
 
 group-of-requires : tie.Need-group-of-requires
-group-of-requires c κs = (lawful c .0 .placed, passed c .slot-below)
+group-of-requires c κs =
+    let a = c .before .before .before .args in
+    let P = lawful c .0 .placed in
+    (P, slot-room (a .shape) P (a .slot) (passed c .slot-below))
 
 first-of-requires : tie.Need-first-of-requires
 first-of-requires c κs = (lawful (c .before) .0 .placed, c .group-of .ensures .1)

@@ -2,6 +2,7 @@ use mathlib.Core.Path.{refl, sym, ap, subst, _∙_}
 use Rattle.code.specs.Family.{single, code-refusal}
 use Rattle.code.specs.Shape.{first}
 use Rattle.code.specs.Laws.{Placed}
+use Rattle.code.proofs.Places.{slot-room}
 use Rattle.code.proofs.Accepted.{mending-of}
 use Rattle.code.proofs.Answers.{answers-no, answers-yes}
 use Rattle.view.proofs.Refusals.{View-passed, view-passed}
@@ -31,7 +32,8 @@ single-requires c κs = search needs
 group-of-requires : tie.Need-group-of-requires
 group-of-requires c κs =
     let e = c .single .ensures in
-    (subst Placed (sym e) (placed (c .before)), rw e (passed (c .before) .slot-below))
+    let P = subst Placed (sym e) (placed (c .before)) in
+    (P, slot-room _ P _ (rw e (passed (c .before) .slot-below)))
 
 first-of-requires : tie.Need-first-of-requires
 first-of-requires c κs =

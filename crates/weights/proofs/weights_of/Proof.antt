@@ -8,7 +8,7 @@ use Rattle.algebra.proofs.Filling.{Filled, filled-none, filled-more}
 use Rattle.field.specs.Field.{γ, minus, power}
 use Rattle.code.specs.Shape.{members, mates}
 use Rattle.code.specs.Repair.{weights}
-use Rattle.code.proofs.Places.{groups-least}
+use Rattle.code.proofs.Places.{groups-least, slot-room}
 use Rattle.code.proofs.Mates.{length-mates}
 use Rattle.layout.specs.Step.{mate-steps}
 use Rattle.layout.proofs.Numbers.{worked-below, steps-below}
@@ -34,10 +34,16 @@ size-of-requires : tie.Need-size-of-requires Inv-loop μ-loop
 size-of-requires c κs = c .before .pre .0 .placed
 
 group-of-requires : tie.Need-group-of-requires Inv-loop μ-loop
-group-of-requires c κs = let s = c .before .before in (s .pre .0 .placed, s .pre .1)
+group-of-requires c κs =
+    let s = c .before .before in
+    let P = s .pre .0 .placed in
+    (P, slot-room (s .args .shape) P (s .args .slot) (s .pre .1))
 
 member-of-requires : tie.Need-member-of-requires Inv-loop μ-loop
-member-of-requires c κs = let s = c .before .before .before in (s .pre .0 .placed, s .pre .1)
+member-of-requires c κs =
+    let s = c .before .before .before in
+    let P = s .pre .0 .placed in
+    (P, slot-room (s .args .shape) P (s .args .slot) (s .pre .1))
 
 members-of-requires : tie.Need-members-of-requires Inv-loop μ-loop
 members-of-requires c κs = (c .before .before .before .before .pre .0 .placed, c .before .group-of .ensures .1)
