@@ -76,6 +76,7 @@ void take_turns(int (*call)(int), double median[2]) {
     int calls = t > turn ? 1 : 1 + (int)(turn / (t + 1e-8));
     for (int i = 0; i < 2 * TURNS; i++) {
         int w = i % 2;
+        clear_upper();
         t = own_time();
         for (int c = 0; c < calls; c++) call(w);
         times[w][i / 2] = (own_time() - t) / calls;
