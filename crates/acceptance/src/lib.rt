@@ -2,6 +2,7 @@
 ghost use mathlib.Core.Path.{_≡_};
 ghost use mathlib.Core.Logic.{_≢_};
 ghost use Prim.Native.Nat.{_+_, _-_, _%_, _≤_};
+ghost use lib.Dec.{eqb};
 ghost use Rattle.field.specs.Field.{q};
 ghost use Rattle.code.specs.Question.{ask};
 ghost use Rattle.code.specs.Family.{single, n-fits, k-fits, wiring-fits, code-refusal};
@@ -22,6 +23,14 @@ pub fn single(code: Code) -> Shape
         tolerance: 1,
         second: 0,
     }
+}
+
+// Whether all groups are whole, of any code, refused or not.
+pub fn is_whole(code: Code) -> bool
+    ensures { λ x. ⌜ x ≡ eqb (code .n % (code .r + 1)) 0 ⌝ }
+{
+    let size = code.r as u64 + 1;
+    code.n as u64 % size == 0
 }
 
 // The refusal of questions 1 to 4 and 17, or 0.
@@ -46,21 +55,19 @@ pub fn code_refusal(code: Code) -> u32
     length_refusal(code, most)
 }
 
-// The refusal of question 17, or 0.
-fn wiring_refusal(code: Code) -> u32
-    requires { ⌜ code .r ≤ 16 ⌝ }
+// The refusal of question 17, or 0, by n mod (r + 1).
+fn wiring_refusal(code: Code, last: u32) -> u32
+    requires { ⌜ last ≡ code .n % (code .r + 1) ⌝ }
     ensures { λ x. ⌜ x ≡ ask (wiring-fits (single code)) 17 0 ⌝ }
 {
     let wiring = code.wiring;
-    let n = code.n;
-    let size = code.r + 1;
     if wiring > 1 {
         return 17;
     }
     if wiring == 0 {
         return 0;
     }
-    if n % size != 0 {
+    if last != 0 {
         return 17;
     }
     0
@@ -82,7 +89,7 @@ fn dimension_refusal(code: Code, number: u32, last: u32) -> u32
     if k + 1 < last {
         return 4;
     }
-    wiring_refusal(code)
+    wiring_refusal(code, last)
 }
 
 // The refusal of questions 3, 4 and 17, or 0; most is q - 1.

@@ -25,21 +25,9 @@ fn refuse(text: &mut [u8], input: &[u8], i: usize, reason: &[u8]) -> Written {
     Written { status: 1, len }
 }
 
-// Whether the groups are whole, of a code whose r and n are accepted: just those could be wired, with one message symbol.
-fn is_whole(code: Code) -> bool {
-    let wired = Code {
-        field: code.field,
-        r: code.r,
-        n: code.n,
-        k: 1,
-        wiring: 1,
-    };
-    acceptance::code_refusal(wired) == 0
-}
-
 // Puts the sentence of a refusal of question 4.
 fn refuse_dimension(text: &mut [u8], input: &[u8], code: Code) -> Written {
-    if is_whole(code) {
+    if acceptance::is_whole(code) {
         return refuse(
             text,
             input,
