@@ -52,14 +52,12 @@ def passes(code, word, marks):
 def decodes(code, word, marks, message, work):
     refusal = ref.decode(code, word, marks, message, work)
     head("decode", code)
-    line(refusal, *ref.grade(code, marks), *message)
+    line(refusal, *ref.grade(code, marks, work), *message)
 
 
 def breaks(code, marks):
-    """The first crowded group; its questions are those of the grade."""
-    refusal, _ = ref.grade(code, marks)
     head("first", code)
-    line(refusal, 0 if refusal else ref.first_crowded(code, marks))
+    line(*ref.first_broken(code, marks))
 
 
 def classroom():

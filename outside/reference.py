@@ -3,12 +3,13 @@
 It shares no code and no table with the library: products are carry-less products reduced by 11D,
 inverses are searched for, codewords are values of the encoding polynomial, repair is Lagrange's
 formula, and decoding is Gauss-Jordan elimination over all kept equations. A code whose last group
-is short has another basis (g and h), and its repair there takes the missing points as zeros.
+is short has another basis (g and h), and its repair there takes the missing points as zeros. The
+grade goes by the dimension of the code cut down to the kept slots, and never decodes.
 
 Each call takes the code and the caller's buffers (bytes, bytearray, or a list for 32-bit numbers),
 asks its questions in the order that is written above it, writes its outputs in place, and answers
 the refusal, or the refusal and a value. A refusal changes nothing and its value is 0; the work
-buffer alone is cleared under 9 and 10.
+buffer alone is cleared under 9 and 10, as it is by every call that borrows it and is not refused.
 """
 
 from collections import namedtuple
@@ -411,10 +412,53 @@ def decode(code, word, marks, message, work):
     return outcome
 
 
+# Grading -----------------------------------------------------------------------------------------
+
+
 def first_crowded(code, marks):
     """The first group with two or more losses, or 255."""
     crowded = [g for g in range(groups(code)) if len(losses(code, marks, g)) >= 2]
     return crowded[0] if crowded else NO_GROUP
+
+
+def independent(field, rows):
+    """The places of the rows that are no sum of multiples of those before them."""
+    found, places, minus_one = [], [], sub(field, 0, 1)
+    for place, row in enumerate(rows):
+        for lead, other in found:  # the row less what makes it 0 where the other one starts
+            if row[lead]:
+                factor = mul(field, minus_one, mul(field, row[lead], inverse(field, other[lead])))
+                row = add_rows(field, row, other.translate(multiples(field, factor)))
+        if any(row):
+            found.append((next(i for i, symbol in enumerate(row) if symbol), row))
+            places.append(place)
+    return places
+
+
+def rank(field, rows):
+    return len(independent(field, rows))
+
+
+@lru_cache(maxsize=64)
+def unit_codewords(code):
+    """The codeword of each message that is 1 in one place and else 0: all codewords are sums of their multiples."""
+    columns = [basis(code, point(code, p)) for p in range(code.n)]
+    return [bytes(column[m] for column in columns) for m in range(code.k)]
+
+
+@lru_cache(maxsize=64)
+def dimension(code):
+    return rank(code.field, unit_codewords(code))
+
+
+def undecided(code, marks):
+    """Whether some two different codewords agree on the kept slots.
+
+    Cutting codewords down to the kept slots is linear, so it makes two of them one exactly where what is left has a
+    smaller dimension than the code.
+    """
+    kept = [p for p in range(code.n) if marks[p] == 0]
+    return rank(code.field, [bytes(word[p] for p in kept) for word in unit_codewords(code)]) < dimension(code)
 
 
 def graded(code, marks):
@@ -423,11 +467,27 @@ def graded(code, marks):
         return 0
     if first_crowded(code, marks) == NO_GROUP:
         return 1
-    return 2 if lost <= guarantee(code) else 3
+    if lost <= guarantee(code):
+        return 2
+    return 4 if undecided(code, marks) else 3
 
 
-def grade(code, marks):
+def grade(code, marks, work):
     """1 2 3 4 17 5 8; the value is the grade."""
+    refusal = code_refusal(code)
+    if refusal:
+        return refusal, 0
+    used = code.n * (code.k + 1)
+    if len(marks) != code.n or len(work) < used:
+        return 5, 0
+    if not marks_fit(marks):
+        return 8, 0
+    work[:used] = bytes(used)
+    return 0, graded(code, marks)
+
+
+def first_broken(code, marks):
+    """1 2 3 4 17 5 8; the value is the first group with two or more losses."""
     refusal = code_refusal(code)
     if refusal:
         return refusal, 0
@@ -435,7 +495,7 @@ def grade(code, marks):
         return 5, 0
     if not marks_fit(marks):
         return 8, 0
-    return 0, graded(code, marks)
+    return 0, first_crowded(code, marks)
 
 
 def record(code, word, marks, message, work, out):

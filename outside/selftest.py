@@ -1,5 +1,5 @@
 """Checks the reference: the paper's worked cases, brute force over small codes of thirteen by both wirings and with short
-last groups, and which calls vectors.py makes.
+last groups, grades against decoding, and which calls vectors.py makes.
 
     python3 outside/selftest.py
 """
@@ -8,6 +8,7 @@ import itertools
 import math
 import random
 import struct
+from collections import Counter
 from pathlib import Path
 
 import reference as ref
@@ -39,6 +40,16 @@ def decoded(code, word, marks):
     assert work == bytes(used) + b"\xbb" * 3
     assert refusal == 0 or message == b"\xaa" * code.k
     return refusal, bytes(message)
+
+
+def grade(code, lost):
+    """The grade of these losses; the work buffer's rule is tested on the way."""
+    used = code.n * (code.k + 1)
+    for room in (used, used + 3):
+        work = bytearray(b"\xbb" * room)
+        refusal, value = ref.grade(code, marked(code.n, lost), work)
+        assert refusal == 0 and work == bytes(used) + b"\xbb" * (room - used)
+    return value
 
 
 def sheet(text):
@@ -103,10 +114,11 @@ def test_classroom():
     assert ref.repair(N, 0, bytes([8, 7])) == (0, 4)
     assert ref.guarantee(N) == 4
     assert decoded(N, ONES_WORD, marked(9, range(4))) == (0, ONES)
-    assert ref.grade(N, marked(9, range(4))) == (0, 2)
+    assert grade(N, range(4)) == 2
     assert decoded(N, ONES_WORD, marked(9, [2, 5, 6, 7, 8])) == (0, ONES)
-    assert ref.grade(N, marked(9, [2, 5, 6, 7, 8])) == (0, 3)
+    assert grade(N, [2, 5, 6, 7, 8]) == 3
     assert decoded(N, ONES_WORD, marked(9, range(4, 9)))[0] == 10
+    assert grade(N, range(4, 9)) == 4 and grade(N, range(9)) == 4
     assert decoded(N, ONES_WORD[:8] + b"\1", bytes(9))[0] == 9
     assert decoded(N, ONES_WORD, bytes([1] * 9))[0] == 10
     assert ref.repair(Code(0, 2, 3, 1), 0, bytes([5, 7])) == (0, 0)
@@ -130,11 +142,12 @@ def test_wired_classroom():
     assert ref.local_pass(WIRED, spoiled, marks) == (0, 0)
     for lost, level, first in [([0, 1], 1, 255), ([1, 4], 2, 1), ([0, 1, 3, 4], 2, 0), ([2, 5, 7, 8], 2, 2)]:
         assert decoded(WIRED, word, marked(9, lost)) == (0, bytes([1, 2, 3, 4]))
-        assert ref.grade(WIRED, marked(9, lost)) == (0, level)
+        assert grade(WIRED, lost) == level
         assert ref.first_crowded(WIRED, marked(9, lost)) == first
     assert decoded(WIRED, word, marked(9, [2, 5, 6, 7, 8])) == (0, bytes([1, 2, 3, 4]))
     assert decoded(WIRED, word, marked(9, [1, 2, 4, 5, 7]))[0] == 10
-    assert ref.grade(WIRED, marked(9, [1, 2, 4, 5, 7])) == (0, 3)
+    assert grade(WIRED, [2, 5, 6, 7, 8]) == grade(WIRED, range(4, 9)) == 3
+    assert grade(WIRED, [1, 2, 4, 5, 7]) == grade(WIRED, range(9)) == 4
     assert decoded(WIRED, word[:8] + b"\5", bytes(9))[0] == 9
 
 
@@ -147,6 +160,7 @@ def test_wired_bytes():
     assert decoded(code, word, marked(9, [1, 4])) == (0, message)
     assert decoded(code, word, marked(9, [0, 3, 7])) == (0, message)
     assert decoded(code, word, marked(9, [0, 3, 6]))[0] == 10
+    assert [grade(code, lost) for lost in ([], [0, 1], [1, 4], [0, 3, 7], [0, 3, 6])] == [0, 1, 2, 3, 4]
     assert ref.first_crowded(code, marked(9, [0, 2, 5])) == 2
     code, out = Code(1, 4, 10, 3, 1), bytearray(16)
     assert ref.mates(code, 7) == [1, 3, 5, 9]
@@ -184,9 +198,13 @@ def test_short_classroom():
     assert spoiled == word and marks == bytes(11)
     for lost, level, first in [([0, 10], 1, 255), ([9, 10], 2, 3), ([0, 1, 9, 10], 2, 0), ([2, 5, 7, 8, 9, 10], 3, 2)]:
         assert decoded(ELEVEN, word, marked(11, lost)) == (0, message)
-        assert ref.grade(ELEVEN, marked(11, lost)) == (0, level)
+        assert grade(ELEVEN, lost) == level
         assert ref.first_crowded(ELEVEN, marked(11, lost)) == first
-    assert decoded(ELEVEN, word, marked(11, range(6, 11)))[0] == 10
+    for lost in (range(5), range(6, 11), [0, 1, 2, 9, 10], range(11)):
+        assert decoded(ELEVEN, word, marked(11, lost))[0] == 10 and grade(ELEVEN, lost) == 4
+    assert grade(ELEVEN, [2, 5, 8, 9, 10]) == 3
+    eight = Code(1, 4, 8, 5)  # the last group is slots 5 6 7; the guarantee is 2
+    assert [grade(eight, lost) for lost in ([5, 6], [0, 5, 6], [5, 6, 7], [0, 1, 2])] == [2, 3, 4, 4]
     assert decoded(ELEVEN, word[:10] + b"\1", bytes(11))[0] == 9
 
 
@@ -314,7 +332,7 @@ def test_report_size():
     assert ref.write_sheet(code, encoded(code, message), marked(255, range(0, 255, 17)), data) == 0
     text = ref.report_text(data)
     assert text.split("\n")[2] == "message " + " ".join(map(str, message))
-    longest = "code 1 16 255 240 1\nlost 255 sure 254 grade 3 first 255\nmessage" + 240 * " 255" + "\n"
+    longest = "code 1 16 255 240 1\nlost 255 sure 254 grade 4 first 255\nmessage" + 240 * " 255" + "\n"
     assert len(text) == 1021 and len(longest) == 1024 <= ref.REPORT_TEXT
 
 
@@ -483,7 +501,7 @@ def test_strips():
 def test_lengths():
     """vectors.py makes good rebuilds of every locality of both fields at every length, and in every short last group."""
     seen, wirings, short = set(), set(), set()
-    for data, refusal in vectors.rebuilds(random.Random(1)):
+    for data, refusal, _ in vectors.rebuilds(random.Random(1)):
         _, _, field, r, n, _, wiring, slot, _, strips, given = struct.unpack_from(">11I", data)
         (columns,) = struct.unpack_from(">I", data, 44 + given)
         mates = r if n % (r + 1) == 0 else n % (r + 1) - 1
@@ -508,6 +526,7 @@ def test_vectors():
     pairs = [("view", pair) for pair in ((4, 17), (17, 18), (17, 5), (18, 5), (18, 7))]
     others = [name for name, asked in vectors.QUESTIONS.items() if 17 in asked and name not in vectors.READERS]
     pairs += [(name, pair) for name in others for pair in ((4, 17), (17, 5))]
+    pairs += [("grade", (5, 8)), ("grade", (17, 8))] * 20
     for name, pair in pairs:
         for wiring in (0, 1):
             draft = vectors.Draft(rng, name, N._replace(wiring=wiring if name != "view" else 0))
@@ -549,7 +568,7 @@ def test_short_mates():
     """The calls of vectors.py hand over s - 1 mates and r mates, for slots of short groups, of others, and of none."""
     rng, seen = random.Random(9), set()
     for index in range(3000):
-        data, refusal = vectors.make_call(rng, "repair", index + len(vectors.CORNERS))
+        data, refusal, _ = vectors.make_call(rng, "repair", index + len(vectors.CORNERS))
         code, (slot, _, length) = Code(*struct.unpack_from(">5I", data, 8)), struct.unpack_from(">3I", data, 28)
         if ref.code_refusal(code) == 0 and ref.short(code):
             whose = "none" if slot >= code.n else "short" if slot >= code.n - ref.short(code) else "whole"
@@ -579,7 +598,7 @@ def test_order():
     assert ref.view(above, 9, bytes(8)) == (17, 0) and ref.view(above._replace(k=7), 9, bytes(8)) == (4, 0)
     assert ref.encode(above, b"\x0d", bytearray(9)) == 17 and ref.weights(above, 99, bytearray(15)) == 17
     assert ref.repair(above, 99, b"\x0d") == (17, 0) and ref.rebuild(above, 99, b"", bytearray()) == 17
-    assert ref.local_pass(above, word, marks[1:]) == (17, 0) and ref.grade(above, marks[1:]) == (17, 0)
+    assert ref.local_pass(above, word, marks[1:]) == (17, 0) and ref.grade(above, marks[1:], work[1:]) == (17, 0)
     assert ref.decode(above, word, marks, bytearray(4), bytearray(44)) == 17
     assert ref.record(above, word, marks, bytearray(4), work, [7] * 9) == 17
     assert ref.record(N, word, bytes(9), bytearray(4), work, [7] * 9) == 5
@@ -608,14 +627,115 @@ def test_short_order():
     assert ref.local_pass(code, word, marks) == (0, 1) and marks == bytes(7) and word[:4] == b"\x0d" * 4
 
 
+def test_grade_by_search():
+    """Of every pattern of losses, some of the longer codes: 4 where two of all codewords have the same kept symbols, else 3."""
+    rng, seen = random.Random(10), set()
+    for code in itertools.chain(small_codes(2), short_codes(2)):
+        words = [encoded(code, m) for m in all_messages(code)]
+        assert len(set(words)) == len(words)
+        patterns = list(itertools.product((0, 1), repeat=code.n))
+        for marks in patterns if len(patterns) <= 64 else rng.sample(patterns, 64):
+            lost = [p for p in range(code.n) if marks[p]]
+            crowds = [sum(marks[p] for p in ref.members(code, g)) for g in range(ref.groups(code))]
+            parts = {bytes(w[p] for p in range(code.n) if not marks[p]) for w in words}
+            if max(crowds) <= 1:
+                wanted = max(crowds)
+            elif sum(marks) <= ref.guarantee(code):
+                wanted = 2
+            else:
+                wanted = 3 if len(parts) == len(words) else 4
+            assert grade(code, lost) == wanted, (code, lost)
+            assert wanted == 4 or len(parts) == len(words)
+            seen.add((code.wiring, ref.short(code) > 0, wanted))
+    assert seen == {(w, s, level) for w, s in ((0, False), (0, True), (1, False)) for level in range(5)}
+
+
+def test_grade_and_decode():
+    """Under grade 4 decode answers 10 of each codeword, under the others 10 of no word; 9 is of the word."""
+    rng, seen = random.Random(11), set()
+    codes = list(itertools.chain(small_codes(11), short_codes(10)))
+    codes += [Code(1, 4, 20, 12, 1), Code(1, 4, 25, 14), Code(1, 4, 18, 10), Code(1, 2, 15, 7), Code(1, 14, 45, 30, 1)]
+    for code in codes:
+        q = ref.order(code.field)
+        for _ in range(12):
+            lost = [p for p, mark in enumerate(vectors.pick_marks(rng, code)) if mark]
+            marks, level = marked(code.n, lost), grade(code, lost)
+            message = bytes(rng.randrange(q) for _ in range(code.k))
+            word = encoded(code, message)
+            blurred = bytes(rng.randrange(256) if m else s for s, m in zip(word, marks))
+            assert decoded(code, blurred, marks)[0] == (10 if level == 4 else 0), (code, lost)
+            noise = bytes(rng.randrange(q) for _ in range(code.n))
+            answer = decoded(code, noise, marks)[0]
+            assert answer in ((9, 10) if level == 4 else (0, 9))
+            assert level < 2 or level == 4 or len(lost) <= code.n - code.k
+            seen |= {(level, code.wiring, ref.short(code) > 0, answer), (level, code.field)}
+    kinds = [(0, False), (1, False), (0, True)]
+    assert seen >= {(4, *kind, answer) for kind in kinds for answer in (9, 10)} | {(3, *kind, 9) for kind in kinds}
+    assert seen >= {(level, field) for level in range(5) for field in (0, 1)}
+
+
+def test_grade_past_the_guarantee():
+    """One loss past the guarantee can be either: whole groups kept leave two codewords, other slots may decide."""
+    rng, seen = random.Random(12), set()
+    for code in itertools.chain(small_codes(11), short_codes(10), [Code(1, 16, 34, 20), Code(1, 14, 45, 30, 1)]):
+        past = ref.guarantee(code) + 1
+        order = sorted(range(code.n), key=lambda p: (len(ref.members(code, ref.group(code, p))), ref.group(code, p), p))
+        lost = order[code.n - past :]
+        assert grade(code, lost) == (4 if ref.first_crowded(code, marked(code.n, lost)) != 255 else 1)
+        others = [rng.sample(range(code.n), past) for _ in range(8)]
+        seen |= {(grade(code, slots), code.field) for slots in [lost, *others]}
+    assert seen >= {(level, field) for level in (3, 4) for field in (0, 1)}
+
+
+def test_grade_order():
+    """Marks of n and work of n * (k + 1) at least are 5, before 8; a refusal leaves work, every grade clears its front."""
+    bad, good = bytes([0] * 8 + [2]), marked(9, [2, 5, 6, 7, 8])
+    wrong = [(N._replace(field=2), 1), (N._replace(r=4), 2), (N._replace(n=10), 3), (N._replace(k=7), 4)]
+    for code, number in [*wrong, (N._replace(wiring=2), 17), (N._replace(k=7, wiring=2), 4)]:
+        for marks, room in itertools.product((good, bad, good[1:]), (0, 44, 45)):
+            work = bytearray(b"\xbb" * room)
+            assert ref.grade(code, marks, work) == (number, 0) and work == b"\xbb" * room
+    for marks, room, number in [(good, 44, 5), (bad, 44, 5), (good, 0, 5), (bad, 0, 5), (good[1:], 45, 5), (bad[1:], 45, 5)]:
+        work = bytearray(b"\xbb" * room)
+        assert ref.grade(N, marks, work) == (number, 0) and work == b"\xbb" * room
+    work = bytearray(b"\xbb" * 50)
+    assert ref.grade(N, bad, work) == (8, 0) and work == b"\xbb" * 50
+    assert ref.grade(N, good + b"\0", work) == (5, 0) and work == b"\xbb" * 50
+    for level, lost in enumerate([[], [0, 3, 6], range(4), [2, 5, 6, 7, 8], range(4, 9)]):
+        work = bytearray(b"\xbb" * 50)
+        assert ref.grade(N, marked(9, lost), work) == (0, level) and work == bytes(45) + b"\xbb" * 5
+    assert ref.first_broken(N, bad) == (8, 0) and ref.first_broken(N, bad[1:]) == (5, 0)
+    assert ref.first_broken(N, good) == (0, 2) and ref.first_broken(N, bytes(9)) == (0, 255)
+
+
+def test_grade_vectors():
+    """vectors.py makes every grade over both fields, wired, short and neither, and one past the guarantee of 3 and of 4."""
+    rng, seen = random.Random(14), Counter()
+    for index in range(1500):
+        data, refusal, level = vectors.make_call(rng, "grade", index)
+        if refusal:
+            continue
+        code, (_, count, length, given) = Code(*struct.unpack_from(">5I", data, 8)), struct.unpack_from(">4I", data, 28)
+        marks = data[44 : 44 + given]
+        assert count == 2 and length == given == code.n and ref.graded(code, marks) == level
+        (room,) = struct.unpack_from(">I", data, 44 + given)
+        assert room >= code.n * (code.k + 1)
+        kind = "wired" if code.wiring else "short" if ref.short(code) else "plain"
+        seen[level, code.field, kind, room == code.n * (code.k + 1)] += 1
+        seen[level, "one past"] += sum(marks) == ref.guarantee(code) + 1
+    for level, field, kind, exact in itertools.product(range(5), (0, 1), ("wired", "short", "plain"), (True, False)):
+        assert seen[level, field, kind, exact], (level, field, kind, exact)
+    assert seen[3, "one past"] > 15 and seen[4, "one past"] > 30
+
+
 def test_record():
     """Ten numbers, with the wiring after k."""
     word, out = encoded(WIRED, ONES), [7] * 10
-    for lost, tail in [([1, 4], [2, 4, 2, 1, 0]), ([0, 1], [2, 4, 1, 255, 0]), ([1, 2, 4, 5, 7], [5, 4, 3, 1, 10])]:
+    for lost, tail in [([1, 4], [2, 4, 2, 1, 0]), ([0, 1], [2, 4, 1, 255, 0]), ([1, 2, 4, 5, 7], [5, 4, 4, 1, 10])]:
         assert ref.record(WIRED, word, marked(9, lost), bytearray(4), bytearray(45), out) == 0
         assert out == [0, 2, 9, 4, 1, *tail]
     word = encoded(ELEVEN, [1] * 5)
-    for lost, tail in [([9, 10], [2, 4, 2, 3, 0]), ([0, 10], [2, 4, 1, 255, 0]), (range(6, 11), [5, 4, 3, 2, 10])]:
+    for lost, tail in [([9, 10], [2, 4, 2, 3, 0]), ([0, 10], [2, 4, 1, 255, 0]), (range(6, 11), [5, 4, 4, 2, 10])]:
         assert ref.record(ELEVEN, word, marked(11, lost), bytearray(5), bytearray(66), out) == 0
         assert out == [0, 2, 11, 5, 0, *tail]
 

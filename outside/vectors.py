@@ -5,7 +5,7 @@
 The calls are valid, damaged and refused, with one fault or with several at once, over both fields,
 both wirings, short last groups and the corner codes. Besides come good rebuilds of every locality r of both fields at
 every length where the strip kernel takes another way, and in short last groups with every number of mates, unless
-"lengths" is among the names. A table of how often each answer came goes to standard error.
+"lengths" is among the names. A table of how often each answer came, and each grade, goes to standard error.
 
 Format: a row of records and then the number 0. Every number is 32 bits, high byte first.
 
@@ -41,7 +41,7 @@ BUFFERS = {
     "view": ("word",),
     "local_pass": ("word", "marks"),
     "decode": ("word", "marks", "message", "work"),
-    "grade": ("marks",),
+    "grade": ("marks", "work"),
     "record": ("word", "marks", "message", "work", "record"),
     "read_sheet": ("sheet", "word", "marks", "code"),
     "write_sheet": ("word", "marks", "sheet"),
@@ -68,6 +68,7 @@ QUESTIONS = {
 # Every number that each call can answer; the record's outcome and the report's text count too.
 ANSWERS = {name: {0, *numbers} for name, numbers in QUESTIONS.items()}
 SOLVERS = ("decode", "record", "report")
+GRADERS = ("grade", *SOLVERS)
 READERS = ("read_sheet", "report")
 for solver in SOLVERS:
     ANSWERS[solver] |= {9, 10}
@@ -115,6 +116,7 @@ LENGTHS = (1, 2, 15, 16, 17, 63, 64, 65, 127, 128, 129, 191, 192, 193, 255, 256,
 SHORT_LENGTHS = (1, 17, 64, 129, 257)  # of strips in short last groups
 WIRED = 0.45  # the share of codes that have wiring 1
 SHORT = 0.35  # the share of the others whose last group is short
+ROOMY = 0.6  # of the codes that are graded, the share that is to have losses of grade 3
 LARGEST = 2**32 - 1
 LONGEST = 65600  # bytes of a buffer
 TAILS = (1, 3, 4, 5)  # bytes after the longest sheet; the report reads the first four
@@ -181,7 +183,7 @@ def shown(name, refusal, args):
 
 
 def make_record(name, code, slot, buffers):
-    """The record's bytes, and the number that it shows."""
+    """The record's bytes, the number that it shows, and the value."""
     args = []
     for kind, buffer in zip(BUFFERS[name], buffers):
         data = bytearray(buffer.data)
@@ -195,7 +197,7 @@ def make_record(name, code, slot, buffers):
         out.append(change(buffer.data, numbers(*arg) if isinstance(arg, list) else bytes(arg)))
     assert all(len(b.data) <= LONGEST for b in buffers)
     body = b"".join(out)
-    return numbers(len(body)) + body, shown(name, refusal, args)
+    return numbers(len(body)) + body, shown(name, refusal, args), value
 
 
 # Codes and stripes -------------------------------------------------------------------------------
@@ -207,6 +209,11 @@ def pick_code(rng, field, short=None):
     if short is None:
         short = not wired and rng.random() < SHORT
     return pick_numbers(rng, field, short)._replace(wiring=int(wired))
+
+
+def picks(rng, field, short):
+    while True:
+        yield pick_code(rng, field, short)
 
 
 def pick_numbers(rng, field, short):
@@ -252,10 +259,12 @@ def codeword(rng, code):
 
 
 def pick_marks(rng, code):
-    """Losses: none, up to the guarantee, one to a group, whole groups, any, all, or in a short last group alone."""
+    """Losses: none, up to the guarantee, one to a group, whole groups, any, all, in a short last group alone, just past
+    the guarantee by groups, or about where the kept slots no longer decide."""
     sure, lost = ref.guarantee(code), []
     shapes = ["none", "sure", "sure", "single", "single", "groups", "any", "any", "all"]
-    shape = rng.choice(shapes + ["last", "last"] * (ref.short(code) > 0))
+    shapes += ["last", "last"] * (ref.short(code) > 0) + ["tight", "edge", "edge", "edge", "edge"] * has_room(code)
+    shape = rng.choice(shapes)
     if shape == "sure":
         lost = rng.sample(range(code.n), rng.randint(1, sure))
     elif shape == "single":
@@ -270,10 +279,51 @@ def pick_marks(rng, code):
         lost = range(code.n)
     elif shape == "last":
         lost = rng.sample(last_slots(code), rng.randint(1, ref.short(code)))
-    marks = bytearray(code.n)
-    for p in lost:
-        marks[p] = 1
-    return marks
+    elif shape == "tight":
+        lost = tight_losses(rng, code)
+    elif shape == "edge":
+        lost = edge_losses(rng, code)
+    return bytearray(p in lost for p in range(code.n))
+
+
+def has_room(code):
+    """Whether there are losses of grade 3: more than the guarantee and more than one a group, and the kept slots decide."""
+    return ref.guarantee(code) < code.n - code.k > ref.groups(code)
+
+
+def tight_losses(rng, code):
+    """As many as the guarantee, or one more. What is kept is whole groups, a short one first, and a part of the next, so that
+    one more leaves two codewords; every third time a slot is exchanged for another, which may decide again."""
+    order = rng.sample(range(ref.groups(code)), ref.groups(code))
+    order.sort(key=lambda g: len(ref.members(code, g)))
+    slots = [p for g in order for p in rng.sample(ref.members(code, g), len(ref.members(code, g)))]
+    count = ref.guarantee(code) + rng.choice([0, 1, 1, 1])
+    kept, lost = slots[: code.n - count], slots[code.n - count :]
+    if rng.random() < 0.33:
+        lost[rng.randrange(count)] = rng.choice(kept)
+    return lost
+
+
+def independent_slots(code, slots):
+    """Those of the slots whose symbols are not settled by the symbols of slots before them."""
+    rows = [bytes(ref.basis(code, ref.point(code, p))) for p in slots]
+    return [slots[i] for i in ref.independent(code.field, rows)]
+
+
+def edge_losses(rng, code):
+    """Past the guarantee: as much as can be lost, or less, and the kept slots decide; or what is kept is all that the
+    symbols of k - 1 slots settle, or less, so that two codewords are left."""
+    kept = independent_slots(code, rng.sample(range(code.n), code.n))
+    others = [p for p in range(code.n) if p not in kept]
+    if rng.random() < 0.6:
+        spare = len(others) - ref.guarantee(code) - 1
+        kept += rng.sample(others, rng.choice([0, 0, rng.randint(0, spare)]))
+    else:
+        kept.pop()
+        if code.n <= 40:
+            kept += [p for p in others if len(independent_slots(code, [*kept, p])) < code.k]
+        kept = rng.sample(kept, len(kept) - rng.choice([0, 0, 1]) * (len(kept) > 0))
+    return [p for p in range(code.n) if p not in kept]
 
 
 def pick_stripe(rng, code, noise):
@@ -608,7 +658,8 @@ def make_call(rng, name, index):
     else:
         aimed = aims(rng, name, late)
         short = True if 17 in aimed and name in READERS else False if 18 in aimed else None
-        code = pick_code(rng, 0 if 6 in aimed else None, short)
+        roomy = name in GRADERS and rng.random() < ROOMY
+        code = next(c for c in picks(rng, 0 if 6 in aimed else None, short) if has_room(c) or not roomy)
         draft = Draft(rng, name, code._replace(wiring=0) if name == "view" else code)  # 18 is aimed at, else 5 and 7 hide
     if rng.random() < 0.3:
         unread(rng, draft)
@@ -641,10 +692,11 @@ def main():
     rng, seen, out = random.Random(seed), Counter(), sys.stdout.buffer
     for index in range(count):
         for name in names:
-            data, number = make_call(rng, name, index)
+            data, number, value = make_call(rng, name, index)
             out.write(data)
             seen[name, number] += 1
-    for data, number in rebuilds(rng) if "lengths" not in left_out else ():
+            seen["grades", value] += name == "grade" and number == 0
+    for data, number, _ in rebuilds(rng) if "lengths" not in left_out else ():
         out.write(data)
         seen["rebuild", number] += 1
     out.write(numbers(0))
@@ -655,6 +707,9 @@ def main():
         stray = {a for n, a in seen if n == name} - ANSWERS[name]
         assert not stray, (name, stray)
         assert count < 600 or all(seen[name, a] for a in ANSWERS[name]), name
+    if "grade" in names:
+        print(f"{'grades':12}", *(f"{a}:{seen['grades', a]}" for a in range(5)), file=sys.stderr)
+        assert count < 600 or all(seen["grades", a] for a in range(5))
 
 
 if __name__ == "__main__":
