@@ -95,6 +95,10 @@ def samples(rng):
     yield changed(good, 0, 0x10020005)  # 3: none
     yield changed(good, 0, 0x10020E05)  # 3: past q - 1
     yield changed(good, 0, 0x10020C05)  # 13
+    yield sheet(*stripe(rng, small, range(9)))  # nothing kept
+    bad = sheet(*stripe(rng, small, range(4, 9)))
+    yield changed(bad, 1, 2 << 28 | (bad[7] + 1) % 13)  # foreign, and two codewords would agree on the kept slots
+    yield sheet(*stripe(rng, (1, 4, 8, 5), [0, 5, 6]))  # past the guarantee, and decided
 
 
 if __name__ == "__main__":
