@@ -20,6 +20,12 @@ pub mod Parity
 pub mod Repairing
 pub mod Passing
 pub mod Keeping
+pub mod Searching
+pub mod Differences
+pub mod Deciding
+pub mod Repaired
+pub mod Graded
+pub mod Working
 pub mod Lone
 pub mod Lawful
 pub mod Monomial

@@ -10,6 +10,7 @@ use Rattle.code.proofs.Codewords.{symbols-in-field}
 use Rattle.code.proofs.Distance.{far-apart, encoding-injective}
 use Rattle.code.proofs.Decoding.{decodes-back}
 use Rattle.code.proofs.Bridges.{bridges}
+use Rattle.code.proofs.Graded.{grade-four, grade-tells}
 use Rattle.code.proofs.Repairing.{low-degree, groups-tell, restores, repairs-back, strip-restores}
 use Rattle.code.proofs.Passing.{pass-mends}
 use Rattle.code.proofs.Keeping.{before-and-after}
@@ -34,6 +35,8 @@ promises =
       decodes-back = decodes-back;
       encoding-injective = encoding-injective;
       bridges = bridges;
+      grade-four = grade-four;
+      grade-tells = grade-tells;
       groups-tell = groups-tell;
       restores = restores;
       repairs-back = repairs-back;

@@ -1,11 +1,13 @@
 -- A verdict's three cases exclude each other. Assumes nothing.
 --   one-only, none-only, more-only   each condition gives its number
+--   Two-fit, two-of-more             10 says that two different messages fit
 --   verdict-same                     where just the same messages fit, a verdict on one word is one on the other
 use mathlib.Core.Path.{_≡_, refl, sym, _∙_}
 use mathlib.Core.Logic.{_≢_}
 use mathlib.Core.Bool.{true}
 use mathlib.Core.List.{List}
 use Prim.Native.Nat.{ℕ}
+use native.Mathlib.Omega.{arith}
 use Rattle.code.specs.Decoding.{fits}
 use Rattle.code.specs.Verdict.{Verdict, one, none, more}
 use Rattle.code.specs.declared.Shape.{Shape}
@@ -27,6 +29,19 @@ module _ (s : Shape) (ws ms : List ℕ) where
   more-only a z ys zs x (one f u) g h n = absurd (n (u ys g ∙ sym (u zs h)))
   more-only a z ys zs x (none v p) g h n = absurd (v ys g)
   more-only a z ys zs x (more xs us f k v p) g h n = (refl, p)
+
+-- what 10 says
+pub record Two-fit (s : Shape) (ws ms : List ℕ) : Type 0 where
+  pub one : List ℕ
+  pub other : List ℕ
+  pub one-fits : fits s ws ms one ≡ true
+  pub other-fits : fits s ws ms other ≡ true
+  pub differ : one ≢ other
+
+pub two-of-more : (s : Shape) (ws ms a z : List ℕ) (x : ℕ) → Verdict s ws ms a z x → x ≡ 10 → Two-fit s ws ms
+two-of-more s ws ms a z x (one f u) e = absurd (omega arith)
+two-of-more s ws ms a z x (none n p) e = absurd (omega arith)
+two-of-more s ws ms a z x (more ys zs f g n p) e = record { one = ys; other = zs; one-fits = f; other-fits = g; differ = n }
 
 -- just the same messages fit ws under ms and vs under ns
 pub verdict-same : (s : Shape) (ws ms vs ns a z : List ℕ) (x : ℕ) → ((ys : List ℕ) → fits s ws ms ys ≡ true → fits s vs ns ys ≡ true)

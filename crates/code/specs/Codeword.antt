@@ -1,6 +1,7 @@
 -- Messages, the encoding polynomial and codewords, of every family. Assumes nothing: these are definitions.
 --   value s ms x      == the value at x of the encoding polynomial of the message ms
 --   symbol s ms p     == its value at the point of place p
+--   some-message s t  == some message passes the test t
 --   encoded s ms      == the codeword of ms
 --   shared s a b      == how many places the words a and b share
 --   guarantee s       == so many losses never lose a message
@@ -13,11 +14,15 @@ use lib.ListN.{length}
 use Rattle.algebra.specs.Sequence.{at, tabulate, count, all-below}
 use Rattle.field.specs.Field.{q, plus, times}
 use Rattle.code.specs.declared.Shape.{Shape}
+use Rattle.code.specs.Search.{any-list}
 use Rattle.code.specs.Shape.{point}
 use Rattle.code.specs.Basis.{basis, most-shared}
 
 unfoldable pub is-message : Shape → List ℕ → Bool
 is-message s ms = eqb (length ms) (s .k) && all-below (q (s .field)) ms
+
+unfoldable pub some-message : Shape → (List ℕ → Bool) → Bool
+some-message s t = any-list (s .k) (q (s .field)) t
 
 unfoldable pub value-from : Shape → (x m : ℕ) → (message : List ℕ) → ℕ
 value-from s x m [] = 0

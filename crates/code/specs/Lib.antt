@@ -11,6 +11,7 @@ pub mod Pass
 pub mod Family
 pub mod Laws
 pub mod Verdict
+pub mod Work
 pub mod Whole
 pub mod Promise
 pub mod Step

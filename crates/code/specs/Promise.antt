@@ -6,6 +6,7 @@
 --   Wiring-moves                                          the wiring moves symbols, and changes none
 --   Symbols-in-field, Low-degree                             codewords
 --   Far-apart, Decodes-back, Encoding-injective, Bridges  one proof of the distance rule; messages and codewords
+--   Grade-four, Grade-tells                               the grade, and what it says of every word
 --   Groups-tell, Restores, Repairs-back, Strip-restores   groups
 --   Pass-mends, Before-and-after                          the local pass
 --   Weights-law, Repair-interpolates, Weights-are         repair for any mates, of a codeword or not
@@ -26,7 +27,7 @@ use Rattle.code.specs.Basis.{exponent, degree, most-shared}
 use Rattle.code.specs.Family.{single, code-refusal}
 use Rattle.code.specs.Codeword.{is-message, value, symbol, encoded, Codeword, shared, guarantee}
 use Rattle.code.specs.Decoding.{agrees, fits}
-use Rattle.code.specs.Erasure.{lost-number}
+use Rattle.code.specs.Erasure.{lost-number, grade}
 use Rattle.code.specs.Repair.{restored, weights, repaired, symbols-of, strip}
 use Rattle.code.specs.Pass.{kept-places, mends, passed, marks-after}
 use Rattle.code.specs.Whole.{Whole-stay}
@@ -139,6 +140,27 @@ pub record Bridge (s : Shape) (ws ms : List ℕ) : Type 0 where
 unfoldable pub Bridges : Type 0
 Bridges = (s : Shape) (ws ms : List ℕ) → Family s → Bridge s ws ms
 
+-- two different codewords agree on the kept slots
+pub record Ambiguous (s : Shape) (ms : List ℕ) : Type 0 where
+  pub one : List ℕ
+  pub other : List ℕ
+  pub one-codeword : Codeword s one
+  pub other-codeword : Codeword s other
+  pub agree : agrees s one other ms ≡ true
+  pub differ : one ≢ other
+
+-- just then the grade is 4
+unfoldable pub Grade-four : Type 0
+Grade-four = (s : Shape) (ms : List ℕ) → Family s → (grade s ms ≡ 4 → Ambiguous s ms) × (Ambiguous s ms → grade s ms ≡ 4)
+
+-- grade 4: where a message fits, whatever the word, another does too; any other grade: no two fit
+pub record Tells (s : Shape) (ws ms : List ℕ) : Type 0 where
+  pub more : grade s ms ≡ 4 → (xs : List ℕ) → fits s ws ms xs ≡ true → (ys : List ℕ) × (fits s ws ms ys ≡ true) × (ys ≢ xs)
+  pub one : grade s ms ≢ 4 → (xs ys : List ℕ) → fits s ws ms xs ≡ true → fits s ws ms ys ≡ true → xs ≡ ys
+
+unfoldable pub Grade-tells : Type 0
+Grade-tells = (s : Shape) (ws ms : List ℕ) → Family s → Tells s ws ms
+
 -- any r places of a group, of slots and of zeros behind them, tell its other places
 unfoldable pub Groups-tell : Type 0
 Groups-tell =
@@ -224,6 +246,8 @@ pub record Promises : Type 0 where
   pub decodes-back : Decodes-back
   pub encoding-injective : Encoding-injective
   pub bridges : Bridges
+  pub grade-four : Grade-four
+  pub grade-tells : Grade-tells
   pub groups-tell : Groups-tell
   pub restores : Restores
   pub repairs-back : Repairs-back

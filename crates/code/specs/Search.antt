@@ -1,9 +1,20 @@
--- The number that is m-th to pass a test. Assumes nothing: these are definitions.
+-- Whether some number, some list passes a test; the number that is m-th to pass. Assumes nothing: these are definitions.
+-- A search is never run: proofs read off it what is there.
+--   any t n         == some number below n passes t
+--   any-list k q t  == some list of k numbers below q passes t
 --   nth t n m       == of the numbers below n that pass t, the one with m such before it; n if there is none
-use mathlib.Core.Bool.{Bool, cond}
+use mathlib.Core.Bool.{Bool, cond, not}
+use mathlib.Core.List.{List, [], _∷_}
 use Prim.Native.Nat.{ℕ, zero, suc}
 use lib.Dec.{eqb}
-use Rattle.algebra.specs.Sequence.{count}
+use Rattle.algebra.specs.Sequence.{count, every}
+
+unfoldable pub any : (ℕ → Bool) → ℕ → Bool
+any t n = not (every (λ i. not (t i)) n)
+
+unfoldable pub any-list : (k q : ℕ) → (List ℕ → Bool) → Bool
+any-list zero q t = t []
+any-list (suc k) q t = any (λ x. any-list k q (λ xs. t (x ∷ xs))) q
 
 unfoldable pub nth-from : (ℕ → Bool) → (left e m : ℕ) → ℕ
 nth-from t zero e m = e
