@@ -33,3 +33,6 @@ pub mod Based
 pub mod Folding
 pub mod Scattered
 pub mod Splicing
+pub mod Highest
+pub mod Underdetermined
+pub mod Multiples
