@@ -1,6 +1,7 @@
 -- Places and their marks: a mark 1 says that the place is lost. Assumes nothing.
 --   masked-lost, masked-kept, masked-below    a symbol by its mark
 --   kept-no, kept-yes, kept-enough            the test that a place is not lost, and how many pass it
+--   kept-before                               a kept place up to a lost one is before it
 --   agreed-more, agreed-not, agreed-all       places that agree, one after the other
 use mathlib.Core.Path.{_≡_, refl, sym, ap, _∙_}
 use mathlib.Core.Logic.{_≢_}
@@ -63,6 +64,13 @@ kept-enough ms n most h = omega (arith, count-split (λ p. eqb (at ms p) 1) (kep
     go : (b : Bool) → T (b || not b)
     go true = tt
     go false = tt
+
+pub kept-before : (ms : List ℕ) (i p : ℕ) → at ms i ≡ 1 → p < i + 1 → at ms p ≢ 1 → p < i
+kept-before ms i p lost h k = go (ℕ-discrete p i)
+  where
+    go : Dec (p ≡ i) → p < i
+    go (yes e) = absurd (k (ap (at ms) e ∙ lost))
+    go (no e) = omega arith
 
 -- places that agree, one after the other
 module _ (from i : ℕ) (ms rs : List ℕ) where

@@ -5,23 +5,23 @@
 use mathlib.Core.Path.{_≡_, sym, ap, ap₂, _∙_}
 use mathlib.Core.Logic.{_≢_}
 use mathlib.Core.List.{List}
-use Prim.Native.Nat.{ℕ, zero, suc, _+_, _≤_, _<_}
+use Prim.Native.Nat.{ℕ, _+_, _≤_, _<_}
 use native.Mathlib.Decide.{ℕ-discrete, decLt}
 use native.Mathlib.Omega.{arith}
 use lib.ListN.{length}
 use Rattle.algebra.specs.Sequence.{at}
 use Rattle.algebra.specs.Writing.{Written}
 use Rattle.algebra.proofs.Counting.{count-yes, count-no}
-use Rattle.algebra.proofs.Ring.{sub-self}
 use Rattle.algebra.proofs.Newton.{rest-kept, quotient, factor-not-nil}
 use Rattle.field.specs.Field.{q, plus, minus, times, inverse}
 use Rattle.field.specs.Polynomial.{poly}
 use Rattle.field.proofs.Laws.{laws}
-use Rattle.field.proofs.Elem.{Elem, same, ring-of, inv, field-of, zero-below, times-zero, zero-times, zero-plus, plus-times-zero}
+use Rattle.field.proofs.Elem.{Elem, same, ring-of, inv, field-of, plus-times-zero}
 use Rattle.field.proofs.Elements.{poly-below}
+use Rattle.field.proofs.Values.{poly-add-scaled}
 use Rattle.interpolation.specs.Step.{Multiplied, kept, Nodes, Rooms, Newton}
-use Rattle.interpolation.proofs.Marks.{kept-no, kept-yes}
-use Rattle.field.proofs.Values.{poly-add-scaled, poly-times-linear}
+use Rattle.interpolation.proofs.Marks.{kept-no, kept-yes, kept-before}
+use Rattle.interpolation.proofs.Factor.{sum-zero, factor-below, factor-few, factor-value, factor-here, factor-there}
 
 module _ (f n : ℕ) (xs ws ms : List ℕ) (i c : ℕ) where
   pub place-skipped : (cs ns vs rs : List ℕ) → at ms i ≡ 1 → Newton f n xs ws ms i c cs ns vs rs → Newton f n xs ws ms (i + 1) c cs ns vs rs
@@ -30,22 +30,15 @@ module _ (f n : ℕ) (xs ws ms : List ℕ) (i c : ℕ) where
         taken = N .taken ∙ count-no (kept ms) i (kept-no ms i lost);
         cs-below = N .cs-below;
         cs-few = N .cs-few;
-        cs-passes = λ p h k. N .cs-passes p (below p h k) k;
+        cs-passes = λ p h k. N .cs-passes p (kept-before ms i p lost h k) k;
         ns-below = N .ns-below;
         ns-few = N .ns-few;
-        ns-roots = λ p h k. N .ns-roots p (below p h k) k;
+        ns-roots = λ p h k. N .ns-roots p (kept-before ms i p lost h k) k;
         vs-values = λ p h l. N .vs-values p (omega arith) l;
         vs-not-zero = λ p h l. N .vs-not-zero p (omega arith) l;
         rs-below = λ p h l. N .rs-below p (omega arith) l;
         rs-left = λ p h l. N .rs-left p (omega arith) l;
       }
-    where
-      below : (p : ℕ) → p < i + 1 → at ms p ≢ 1 → p < i
-      below p h k = go (ℕ-discrete p i)
-        where
-          go : Dec (p ≡ i) → p < i
-          go (yes e) = absurd (k (ap (at ms) e ∙ lost))
-          go (no e) = omega arith
 
   -- k is the factor, and places from s up to e, coefficients below w are worked on
   module _ (cs ns vs rs cs′ ns′ vs′ rs′ : List ℕ) (k v h w s e : ℕ) (P : Nodes f n xs) (S : Rooms cs ns vs rs)
@@ -75,37 +68,13 @@ module _ (f n : ℕ) (xs ws ms : List ℕ) (i c : ℕ) where
             A .behind m (omega arith)
             ∙ sym (ap (λ x. plus f (at cs m) (times f k x)) (N .ns-few m (omega arith)) ∙ plus-times-zero f (at cs m) k (N .cs-below m) k-below)
 
-    ns-first : at ns′ 0 ≡ times f (minus f 0 (at xs i)) (at ns 0)
-    ns-first = D .first (omega arith) ∙ zero-plus f _ (laws f .times-below (minus f 0 (at xs i)) (at ns 0))
-
-    both-zero : (j a b : ℕ) → j < q f → a ≡ 0 → b ≡ 0 → plus f a (times f j b) ≡ 0
-    both-zero j a b hj p r = ap₂ (λ x z. plus f x (times f j z)) p r ∙ plus-times-zero f 0 j (zero-below f) hj
-
-    ns-next : (m : ℕ) → at ns′ (suc m) ≡ plus f (at ns m) (times f (minus f 0 (at xs i)) (at ns (suc m)))
-    ns-next m = go (decLt (suc m) w)
-      where
-        go : Dec (suc m < w) → at ns′ (suc m) ≡ plus f (at ns m) (times f (minus f 0 (at xs i)) (at ns (suc m)))
-        go (yes b) = D .next m b
-        go (no b) =
-            D .behind (suc m) (omega arith) ∙ N .ns-few (suc m) (omega arith)
-            ∙ sym (both-zero (minus f 0 (at xs i)) (at ns m) (at ns (suc m)) (laws f .minus-below 0 (at xs i)) (N .ns-few m (omega arith)) (N .ns-few (suc m) (omega arith)))
-
-    ns′-below : (m : ℕ) → at ns′ m < q f
-    ns′-below zero = rw ns-first (laws f .times-below (minus f 0 (at xs i)) (at ns 0))
-    ns′-below (suc m) = rw (ns-next m) (laws f .plus-below (at ns m) (times f (minus f 0 (at xs i)) (at ns (suc m))))
-
-    ns′-few : (m : ℕ) → c + 1 < m → at ns′ m ≡ 0
-    ns′-few zero b = absurd (omega arith)
-    ns′-few (suc m) b =
-        ns-next m ∙ both-zero (minus f 0 (at xs i)) (at ns m) (at ns (suc m)) (laws f .minus-below 0 (at xs i)) (N .ns-few m (omega arith)) (N .ns-few (suc m) (omega arith))
-
     -- the values
     cs-value : (x : ℕ) → x < q f → poly f cs′ x ≡ plus f (poly f cs x) (times f k (poly f ns x))
     cs-value x hx =
         poly-add-scaled f 256 k x k-below hx cs′ cs ns (A .size ∙ S .cs-size) (S .cs-size) (S .ns-size) (N .cs-below) (N .ns-below) cs-at
 
     ns-value : (x : ℕ) → x < q f → poly f ns′ x ≡ times f (minus f x (at xs i)) (poly f ns x)
-    ns-value x hx = poly-times-linear f 256 (at xs i) x y-below hx ns′ ns (D .size ∙ S .ns-size) (S .ns-size) ns′-below (N .ns-below) ns-first ns-next
+    ns-value = factor-value f c (at xs i) w ns ns′ wide y-below (S .ns-size) (N .ns-below) (N .ns-few) D
 
     -- at place i
     vs-i : at vs i ≡ poly f ns (at xs i)
@@ -123,11 +92,6 @@ module _ (f n : ℕ) (xs ws ms : List ℕ) (i c : ℕ) where
         cs-value (at xs i) y-below ∙ ap (λ z. plus f (poly f cs (at xs i)) (times f k z)) (sym vs-i)
         ∙ ap (plus f (poly f cs (at xs i))) factor ∙ laws f .plus-comm (poly f cs (at xs i)) (at rs i) ∙ N .rs-left i (omega arith) inside
 
-    here-root : poly f ns′ (at xs i) ≡ 0
-    here-root =
-        ns-value (at xs i) y-below ∙ ap (λ z. times f z (poly f ns (at xs i))) (ap (λ z. z .0) (sub-self (ring-of f) (at xs i, y-below)))
-        ∙ zero-times f (poly f ns (at xs i)) (poly-below f ns (at xs i))
-
     -- at a place taken before
     passes : (p : ℕ) → p < i + 1 → at ms p ≢ 1 → poly f cs′ (at xs p) ≡ at ws p
     passes p b l = go (ℕ-discrete p i)
@@ -142,10 +106,9 @@ module _ (f n : ℕ) (xs ws ms : List ℕ) (i c : ℕ) where
     roots p b l = go (ℕ-discrete p i)
       where
         go : Dec (p ≡ i) → poly f ns′ (at xs p) ≡ 0
-        go (yes z) = rw z here-root
+        go (yes z) = rw z (factor-here f c (at xs i) w ns ns′ wide y-below (S .ns-size) (N .ns-below) (N .ns-few) D)
         go (no z) =
-            ns-value (at xs p) (P .below p (omega arith)) ∙ ap (times f (minus f (at xs p) (at xs i))) (N .ns-roots p (omega arith) l)
-            ∙ times-zero f (minus f (at xs p) (at xs i)) (laws f .minus-below (at xs p) (at xs i))
+            factor-there f c (at xs i) w ns ns′ wide y-below (S .ns-size) (N .ns-below) (N .ns-few) D (at xs p) (P .below p (omega arith)) (N .ns-roots p (omega arith) l)
 
     -- at a place behind
     module _ (p : ℕ) (b : i + 1 ≤ p) (l : p < n) where
@@ -182,10 +145,10 @@ module _ (f n : ℕ) (xs ws ms : List ℕ) (i c : ℕ) where
         record {
           taken = ap (λ z. z + 1) (N .taken) ∙ count-yes (kept ms) i (kept-yes ms i here);
           cs-below = λ m. rw (cs-at m) (laws f .plus-below (at cs m) (times f k (at ns m)));
-          cs-few = λ m b. cs-at m ∙ both-zero k (at cs m) (at ns m) k-below (N .cs-few m (omega arith)) (N .ns-few m (omega arith));
+          cs-few = λ m b. cs-at m ∙ sum-zero f k (at cs m) (at ns m) k-below (N .cs-few m (omega arith)) (N .ns-few m (omega arith));
           cs-passes = passes;
-          ns-below = ns′-below;
-          ns-few = ns′-few;
+          ns-below = factor-below f c (at xs i) w ns ns′ wide y-below (S .ns-size) (N .ns-below) (N .ns-few) D;
+          ns-few = factor-few f c (at xs i) w ns ns′ wide y-below (S .ns-size) (N .ns-below) (N .ns-few) D;
           ns-roots = roots;
           vs-values = value-there;
           vs-not-zero = not-zero-there;

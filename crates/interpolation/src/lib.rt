@@ -13,7 +13,7 @@ ghost use Rattle.interpolation.specs.Interpolated.{masked, Interpolated}
 ghost use Rattle.interpolation.specs.Step.{Shifted, Multiplied, kept, Nodes, Rooms, Newton, Settled, Agreed};
 
 // The end of the block that place n is in.
-fn block_end(n: usize) -> usize
+pub fn block_end(n: usize) -> usize
     requires { ⌜ n < 256 ⌝ }
     ensures { λ r. ⌜ (n < r) × (r ≤ 256) ⌝ }
 {
@@ -76,7 +76,7 @@ fn combine(field: u32, shifted: &[u8; 257], target: &mut [u8; 256], to: usize, k
 }
 
 // The polynomial times X - y, of which `to` coefficients hold all that are not 0.
-fn mul_linear(field: u32, basis: &mut [u8; 256], to: usize, y: u8)
+pub fn mul_linear(field: u32, basis: &mut [u8; 256], to: usize, y: u8)
     requires { ⌜ (length (now basis) ≡ 256) × (to ≤ 256) ⌝ }
     ensures { λ _. ⌜ Multiplied field (minus field 0 y) to (now (basis .entry)) (now (basis .exit)) ⌝ }
 {
