@@ -1,6 +1,7 @@
 -- Parity checks of polynomials' values: points that are a geometric progression around a cycle. Assumes nothing.
 --   cycle-sum    terms of which each is u times the one before, around a cycle, add to 0 where u is not 1
 --   parity       if the powers 1 to n - 1 of n points add to 0, so does point times value of a polynomial with n - 1 coefficients
+--   dot-none     a sum of products with values that are 0
 --   dot-two      a sum of products that has two terms
 use mathlib.Core.Path.{_≡_, refl, sym, ap, ap₂, _∙_}
 use mathlib.Core.Logic.{_≢_}
@@ -27,7 +28,7 @@ module _ (R : Ring) where
       ap₂ _⊕_ (dot-sum l a b d y w z h) (h l) ∙ add-interchange R (dot R l b w) (dot R l d z) (b l ⊗ w l) (d l ⊗ z l)
 
   -- no value but 0
-  dot-none : (l : ℕ) (a y : ℕ → El) → ((m : ℕ) → m < l → y m ≡ 𝟘) → dot R l a y ≡ 𝟘
+  pub dot-none : (l : ℕ) (a y : ℕ → El) → ((m : ℕ) → m < l → y m ≡ 𝟘) → dot R l a y ≡ 𝟘
   dot-none l a y h =
       dot-cong R l a (λ _. 𝟘) y y (λ m n. ap (λ x. a m ⊗ x) (h m n) ∙ mul-nil R (a m) ∙ sym (nil-mul R (y m)))
       ∙ dot-nil R l (λ _. 𝟘) y (λ m n. refl)

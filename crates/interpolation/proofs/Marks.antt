@@ -1,7 +1,7 @@
 -- Places and their marks: a mark 1 says that the place is lost. Assumes nothing.
 --   masked-lost, masked-kept, masked-below    a symbol by its mark
 --   kept-no, kept-yes, kept-enough            the test that a place is not lost, and how many pass it
---   kept-before                               a kept place up to a lost one is before it
+--   kept-not-lost, kept-before                what passes is not lost; a kept place up to a lost one is before it
 --   agreed-more, agreed-not, agreed-all       places that agree, one after the other
 use mathlib.Core.Path.{_≡_, refl, sym, ap, _∙_}
 use mathlib.Core.Logic.{_≢_}
@@ -64,6 +64,13 @@ kept-enough ms n most h = omega (arith, count-split (λ p. eqb (at ms p) 1) (kep
     go : (b : Bool) → T (b || not b)
     go true = tt
     go false = tt
+
+pub kept-not-lost : (ms : List ℕ) (p : ℕ) → T (kept ms p) → at ms p ≢ 1
+kept-not-lost ms p k e = go (eqb (at ms p) 1) (same? (at ms p) 1) k
+  where
+    go : (b : Bool) → Same (at ms p) 1 b → T (not b) → ⊥
+    go true s k = k
+    go false (other h) k = h e
 
 pub kept-before : (ms : List ℕ) (i p : ℕ) → at ms i ≡ 1 → p < i + 1 → at ms p ≢ 1 → p < i
 kept-before ms i p lost h k = go (ℕ-discrete p i)

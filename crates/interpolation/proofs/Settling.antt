@@ -1,5 +1,6 @@
 -- The start and the end of the steps of Newton's interpolation. Assumes nothing.
 --   unit-row, unit-values       the polynomial 1, and its values
+--   first-below                 a row with 1 in front and 0 behind is of elements
 --   count-step      how many places are taken, unit-row place more
 --   enough          while fewer than most are taken, there is a place more
 --   started         no place is taken yet
@@ -58,7 +59,7 @@ module _ (f : ℕ) where
   one-below : 1 < q f
   one-below = omega (arith, laws f .two-below)
 
-  first-below : (ns : List ℕ) → at ns 0 ≡ 1 → ((m : ℕ) → 0 < m → at ns m ≡ 0) → (m : ℕ) → at ns m < q f
+  pub first-below : (ns : List ℕ) → at ns 0 ≡ 1 → ((m : ℕ) → 0 < m → at ns m ≡ 0) → (m : ℕ) → at ns m < q f
   first-below ns o z zero = rw o one-below
   first-below ns o z (suc m) = rw (z (suc m) (omega arith)) (zero-below f)
 

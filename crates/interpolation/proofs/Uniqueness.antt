@@ -1,16 +1,16 @@
 -- What the settled polynomial is: it passes where nothing is left, and no other of as many coefficients passes. Assumes nothing.
+--   nodes-differ    the points, as elements, differ
 --   interpolated    the settled polynomial and the comparison answer as asked
 use mathlib.Core.Path.{_≡_, sym, ap, _∙_}
 use mathlib.Core.Logic.{_≢_}
-use mathlib.Core.Bool.{Bool, true, false, not}
+use mathlib.Core.Bool.{Bool}
 use mathlib.Core.List.{List}
 use Prim.Native.Nat.{ℕ, _≤_, _<_}
 use native.Mathlib.Decide.{decLt}
 use native.Mathlib.Omega.{arith}
-use lib.Dec.{T, eqb}
+use lib.Dec.{T}
 use lib.ListN.{length}
 use Rattle.algebra.specs.Sequence.{at, all-below}
-use Rattle.algebra.proofs.Equality.{Same, other, same?}
 use Rattle.algebra.proofs.Counting.{count-most}
 use Rattle.algebra.proofs.Below.{all-below-any}
 use Rattle.algebra.proofs.Ring.{add-cancel}
@@ -21,7 +21,10 @@ use Rattle.field.proofs.Elem.{Elem, same, ring-of, field-of, el, el-is, zero-be
 use Rattle.field.proofs.Elements.{el-at, poly-below, poly-value}
 use Rattle.interpolation.specs.Interpolated.{masked, Passes, Interpolated}
 use Rattle.interpolation.specs.Step.{kept, Nodes, Settled, Agreed}
-use Rattle.interpolation.proofs.Marks.{masked-kept}
+use Rattle.interpolation.proofs.Marks.{masked-kept, kept-not-lost}
+
+pub nodes-differ : (f n : ℕ) (xs : List ℕ) → Nodes f n xs → (i j : ℕ) → i < n → j < n → el f (at xs i) ≡ el f (at xs j) → i ≡ j
+nodes-differ f n xs P i j h g e = P .differ i j h g (sym (el-is f (at xs i) (P .below i h)) ∙ ap (λ y. y .0) e ∙ el-is f (at xs j) (P .below j g))
 
 module _ (f n most : ℕ) (xs ws ms us cs rs : List ℕ) (i : ℕ) (small : n ≤ 255) (P : Nodes f n xs)
     (W : (p : ℕ) → p < n → at us p ≡ masked (at ws p) (at ms p)) (S : Settled f n most xs us ms i cs rs) where
@@ -58,21 +61,13 @@ module _ (f n most : ℕ) (xs ws ms us cs rs : List ℕ) (i : ℕ) (small : n �
         let b : p < n = omega (arith, S .inside) in
         let x : Elem f = (at xs p, P .below p b) in
         let e : el f (at xs p) ≡ x = same f _ _ (el-is f (at xs p) (P .below p b)) in
-        let a : at ms p ≢ 1 = not-lost p k in
+        let a : at ms p ≢ 1 = kept-not-lost ms p k in
         rw e (same f _ _ (sym (ds-value (at xs p) (P .below p b)) ∙ D p b a ∙ sym (wanted p b a) ∙ sym (S .passes p h a) ∙ cs-value (at xs p) (P .below p b)))
-      where
-        not-lost : (p : ℕ) → T (kept ms p) → at ms p ≢ 1
-        not-lost p k e = go (eqb (at ms p) 1) (same? (at ms p) 1) k
-          where
-            go : (b : Bool) → Same (at ms p) 1 b → T (not b) → ⊥
-            go true s k = k
-            go false (other h) k = h e
 
     equal-coefs : (m : ℕ) → m < most → el-at f ds m ≡ el-at f cs m
     equal-coefs =
         unique-counted (field-of f) (λ p. el f (at xs p)) (kept ms) i (el-at f ds) (el-at f cs) most
-        (λ a b h g e. P .differ a b (omega (arith, S .inside)) (omega (arith, S .inside))
-        (sym (el-is f (at xs a) (P .below a (omega (arith, S .inside)))) ∙ ap (λ y. y .0) e ∙ el-is f (at xs b) (P .below b (omega (arith, S .inside)))))
+        (λ a b h g e. nodes-differ f n xs P a b (omega (arith, S .inside)) (omega (arith, S .inside)) e)
         agree (omega (arith, S .taken))
 
     equal : (m : ℕ) → m < most → at ds m ≡ at cs m
