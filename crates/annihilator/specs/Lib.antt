@@ -1,0 +1,2 @@
+pub mod Annihilator
+pub mod Step
