@@ -3,24 +3,22 @@
 --   product-is, product-listed                                a coefficient of the product is that over the field
 --   zeros-vector, zeros-clear                                 0 solves every equation
 --   rows-most                                                 rows of fewer unknowns take less room
---   start, part-room                                          where the newcomer starts, and the buffer from there on
---   filled-echelon, filled-below, gathered-more               a gap more: its row is the newcomer
+--   filled-below, gathered-more                               a gap more: its row is the newcomer
 --   gathered-none                                             no gap yet
 use mathlib.Core.Path.{_≡_, refl, sym, ap, _∙_}
 use mathlib.Core.Bool.{Bool, true, false}
-use mathlib.Core.List.{List, _++_}
+use mathlib.Core.List.{List}
 use Prim.Native.Nat.{ℕ, _+_, _*_, _-_, _≤_, _<_}
 use native.Mathlib.Nat.{mul-le-mul}
 use native.Mathlib.Decide.{ℕ-discrete, decLt}
 use native.Mathlib.Omega.{arith}
 use borrow.Author.Tests.{lt-ltb, le-ltb}
-use borrow.Rule.Slice.PartMut.{putMid, midOf, postOf, same-len-mid}
-use lib.ListN.{length, take, drop, replicate, length-drop, length-replicate, List·getD-append}
-use lib.Seq.{getD-drop, getD-take, length-take-le, getD-append-add}
+use borrow.Rule.Slice.PartMut.{midOf}
+use lib.ListN.{length, take, replicate, length-drop, length-replicate}
+use lib.Seq.{getD-take, length-take-le}
 use Rattle.algebra.specs.Sequence.{at, tabulate}
 use Rattle.algebra.specs.Writing.{Written}
 use Rattle.algebra.proofs.At.{at-zeros}
-use Rattle.algebra.proofs.Strides.{row-step}
 use Rattle.algebra.proofs.Tabulate.{length-tabulate, at-tabulate, tabulate-is}
 use Rattle.algebra.proofs.Equations.{dot-cong}
 use Rattle.algebra.proofs.Parity.{dot-none}
@@ -31,7 +29,8 @@ use Rattle.field.proofs.Elem.{Elem, ring-of, el, zero-below, el-zero}
 use Rattle.field.proofs.Elements.{el-at, listed, el-at-listed}
 use Rattle.field.proofs.Products.{dotted-stop}
 use Rattle.linear.specs.System.{Vector, entry, coefs, residue, Solved, Echelon, Inserted}
-use Rattle.linear.proofs.Elements.{dot-is, listed-vector, echelon-kept, residue-kept}
+use Rattle.linear.proofs.Elements.{dot-is, listed-vector}
+use Rattle.linear.proofs.Newcomer.{start, filled, filled-row, filled-coefs, filled-room, filled-same}
 use Rattle.linear.proofs.Substitution.{vector-of, cleared-echelon, cleared-solved}
 use Rattle.annihilator.specs.Step.{shifted, product, Clear, Gathered}
 
@@ -92,63 +91,26 @@ zeros-clear f t size r gaps zs below j h =
 pub rows-most : (t g : ℕ) → t ≤ g → t * (t + 1) + (t + 1) ≤ g * (g + 1) + (g + 1)
 rows-most t g h = let l : t + 1 ≤ g + 1 = omega arith in omega (arith, mul-le-mul h l)
 
--- where the newcomer starts, and the buffer from there on
-unfoldable pub start : ℕ → ℕ
-start t = t * (t + 1)
-
-part-room : (f t : ℕ) (a : List ℕ) → Echelon f t a → t ≤ length (midOf (start t) (length a - start t) a)
-unfolding start
-part-room f t a E =
-    let s = t * (t + 1) in
-    omega (arith, E .room, length-drop s a, length-take-le (length a - s) (drop s a) (omega (arith, length-drop s a)))
-
 -- a buffer whose newcomer is the row of exponent e
 module _ (f t e : ℕ) (zs : List ℕ) (small : (m : ℕ) → at zs m < q f) (a y : List ℕ) (E : Echelon f t a)
     (R : Written (shifted zs e) 0 t (midOf (start t) (length a - start t) a) y) where
   abbrev b : List ℕ
-  b = putMid (start t) (length a - start t) a y
-
-  inside : start t ≤ length a
-  unfolding start
-  inside = omega (arith, E .room)
-
-  front : (i : ℕ) → i < t * (t + 1) → at b i ≡ at a i
-  unfolding start
-  front i h =
-      let s = t * (t + 1) in
-      List·getD-append (take s a) (y ++ postOf s (length a - s) a) 0 i (omega (arith, length-take-le s a inside)) ∙ getD-take s a i 0 h
-
-  row : (m : ℕ) → m < t → entry t b t m ≡ shifted zs e m
-  unfolding start
-  row m h =
-      let s = t * (t + 1) in
-      ap (λ n. at b (n + m)) (sym (length-take-le s a inside))
-      ∙ getD-append-add (take s a) (y ++ postOf s (length a - s) a) m 0
-      ∙ List·getD-append y (postOf s (length a - s) a) 0 m (omega (arith, R .size, part-room f t a E)) ∙ R .put m (omega arith) h
-
-  room : t * (t + 1) + (t + 1) ≤ length b
-  room = omega (arith, same-len-mid (start t) (length a - start t) a y (R .size), E .room)
-
-  kept : (i m : ℕ) → i < t → m ≤ t → entry t b i m ≡ entry t a i m
-  kept i m h l = front (i * (t + 1) + m) (omega (arith, row-step i t (t + 1) h))
-
-  pub filled-echelon : Echelon f t b
-  filled-echelon = echelon-kept f t a b E room kept
+  b = filled t a y
 
   pub filled-below : (m : ℕ) → m < t → entry t b t m < q f
-  filled-below m h = rw (row m h) (shifted-below f zs small e m)
+  filled-below m h = rw (filled-row f t a y E (R .size) m h, R .put m (omega arith) h) (shifted-below f zs small e m)
 
   same : (us : List ℕ) → Vector f t us → (i : ℕ) → i < t → residue f t b i us ≡ residue f t a i us
-  same us v i h = residue-kept f t a b E room kept i us h v
+  same us v i h = filled-same f t a y E (R .size) us v i h
 
   new-row : (us : List ℕ) → Vector f t us → dotted f us (coefs t b) ≡ product f t zs us e
   unfolding product
   new-row us v =
-      let d : t ≤ length (coefs t b) = omega (arith, room, length-drop (t * (t + 1)) b) in
+      let d : t ≤ length (coefs t b) = omega (arith, filled-room f t a y E (R .size), length-drop (t * (t + 1)) b) in
       sym (dotted-stop f t us (coefs t b) (omega (arith, v .size)))
       ∙ ap (dotted f us)
       (tabulate-is (shifted zs e) 0 t (take t (coefs t b)) (length-take-le t (coefs t b) d)
-      (λ i h. getD-take t (coefs t b) i 0 h ∙ getD-drop (t * (t + 1)) b i 0 ∙ row i h))
+      (λ i h. getD-take t (coefs t b) i 0 h ∙ filled-coefs f t a y E (R .size) i h ∙ R .put i (omega arith) h))
 
   pub gathered-more : (size r j : ℕ) (d : List ℕ) (x : Bool) → e ≡ j * size + r → Gathered f t size r zs j a → Inserted f t 0 b d x
       → Gathered f t size r zs (j + 1) d

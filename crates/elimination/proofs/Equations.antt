@@ -1,20 +1,18 @@
 -- The kept slots' equations: what fits is what solves them. Assumes nothing.
---   filled-echelon, filled-below, taken, taken-lost   one slot: its generator row is the newcomer
+--   filled-below, taken, taken-lost         one slot: its generator row is the newcomer
 --   Gathering, gathering-*, gathered-*      one slot after the other
-use mathlib.Core.Path.{_≡_, sym, ap, _∙_}
+use mathlib.Core.Path.{_≡_, sym, _∙_}
 use mathlib.Core.Logic.{_≢_}
 use mathlib.Core.Bool.{Bool, true, false}
-use mathlib.Core.List.{List, _++_}
+use mathlib.Core.List.{List}
 use Prim.Native.Nat.{ℕ, _+_, _*_, _-_, _≤_, _<_}
 use native.Mathlib.Decide.{ℕ-discrete}
 use native.Mathlib.Omega.{arith}
 use lib.Dec.{T}
-use lib.ListN.{length, take, drop, replicate, length-drop, List·getD-append}
-use lib.Seq.{getD-drop, getD-take, length-take-le, getD-append-add}
-use borrow.Rule.Slice.PartMut.{putMid, midOf, postOf, same-len-mid}
+use lib.ListN.{length, replicate, length-drop}
+use borrow.Rule.Slice.PartMut.{midOf}
 use Rattle.algebra.specs.Sequence.{at}
 use Rattle.algebra.proofs.Booleans.{differ}
-use Rattle.algebra.proofs.Strides.{row-step}
 use Rattle.field.specs.Field.{q}
 use Rattle.field.specs.Polynomial.{dotted}
 use Rattle.field.proofs.Elements.{poly-below}
@@ -26,57 +24,20 @@ use Rattle.code.specs.Laws.{Family}
 use Rattle.code.specs.declared.Shape.{Shape}
 use Rattle.code.proofs.Points.{point-below}
 use Rattle.linear.specs.System.{Vector, entry, coefs, residue, Solved, Echelon, Inserted}
-use Rattle.linear.proofs.Elements.{echelon-kept, residue-kept}
+use Rattle.linear.proofs.Newcomer.{start, filled, filled-row, filled-coefs, filled-room, filled-same}
 use Rattle.linear.proofs.Substitution.{cleared-echelon, cleared-solved}
 use Rattle.elimination.specs.Task.{work-size}
 use Rattle.elimination.specs.Step.{Agrees-at, Agrees-below, Taken, Gathered}
 use Rattle.generator_matrix.specs.Row.{Generator-row}
 use Rattle.generator_matrix.proofs.Generators.{symbol-is}
 
--- where the newcomer starts, and the buffer from there on
-unfoldable pub start : Shape → ℕ
-start s = s .k * (s .k + 1)
-
-pub part-room : (s : Shape) (a : List ℕ) → Echelon (s .field) (s .k) a → s .k ≤ length (midOf (start s) (length a - start s) a)
-unfolding start
-part-room s a E =
-    let t = s .k * (s .k + 1) in
-    omega (arith, E .room, length-drop t a, length-take-le (length a - t) (drop t a) (omega (arith, length-drop t a)))
-
 -- a buffer whose newcomer is slot p's generator row
-module _ (s : Shape) (p : ℕ) (L : Family s) (a z : List ℕ) (E : Echelon (s .field) (s .k) a) (R : Generator-row s p (midOf (start s) (length a - start s) a) z) where
+module _ (s : Shape) (p : ℕ) (L : Family s) (a z : List ℕ) (E : Echelon (s .field) (s .k) a) (R : Generator-row s p (midOf (start (s .k)) (length a - start (s .k)) a) z) where
   abbrev b : List ℕ
-  b = putMid (start s) (length a - start s) a z
-
-  inside : start s ≤ length a
-  unfolding start
-  inside = omega (arith, E .room)
-
-  front : (i : ℕ) → i < s .k * (s .k + 1) → at b i ≡ at a i
-  unfolding start
-  front i h =
-      let t = s .k * (s .k + 1) in
-      List·getD-append (take t a) (z ++ postOf t (length a - t) a) 0 i (omega (arith, length-take-le t a inside)) ∙ getD-take t a i 0 h
+  b = filled (s .k) a z
 
   row : (m : ℕ) → m < s .k → entry (s .k) b (s .k) m ≡ basis s m (point s p)
-  unfolding start
-  row m h =
-      let t = s .k * (s .k + 1) in
-      ap (λ n. at b (n + m)) (sym (length-take-le t a inside))
-      ∙ getD-append-add (take t a) (z ++ postOf t (length a - t) a) m 0
-      ∙ List·getD-append z (postOf t (length a - t) a) 0 m (omega (arith, R .size, part-room s a E)) ∙ R .entry m h
-
-  len : length b ≡ length a
-  len = same-len-mid (start s) (length a - start s) a z (R .size)
-
-  room : work-size s ≤ length b
-  room = omega (arith, len, E .room)
-
-  kept : (i m : ℕ) → i < s .k → m ≤ s .k → entry (s .k) b i m ≡ entry (s .k) a i m
-  kept i m h l = front (i * (s .k + 1) + m) (omega (arith, row-step i (s .k) (s .k + 1) h))
-
-  pub filled-echelon : Echelon (s .field) (s .k) b
-  filled-echelon = echelon-kept (s .field) (s .k) a b E room kept
+  row m h = filled-row (s .field) (s .k) a z E (R .size) m h ∙ R .entry m h
 
   pub filled-below : (m : ℕ) → m < s .k → entry (s .k) b (s .k) m < q (s .field)
   filled-below m h =
@@ -84,13 +45,13 @@ module _ (s : Shape) (p : ℕ) (L : Family s) (a z : List ℕ) (E : Echelon (s .
       rw (row m h, B .is (point s p) (point-below s p)) (poly-below (s .field) (B .coefs) (point s p))
 
   same : (ys : List ℕ) → Vector (s .field) (s .k) ys → (i : ℕ) → i < s .k → residue (s .field) (s .k) b i ys ≡ residue (s .field) (s .k) a i ys
-  same ys v i h = residue-kept (s .field) (s .k) a b E room kept i ys h v
+  same ys v i h = filled-same (s .field) (s .k) a z E (R .size) ys v i h
 
   product : (ys : List ℕ) → Vector (s .field) (s .k) ys → dotted (s .field) ys (coefs (s .k) b) ≡ symbol s ys p
   product ys v =
       sym (dotted-take (s .field) (s .k) ys (coefs (s .k) b) (v .size))
-      ∙ symbol-is s p ys (coefs (s .k) b) (v .size) (omega (arith, length-drop (s .k * (s .k + 1)) b, room))
-      (λ m h. getD-drop (s .k * (s .k + 1)) b m 0 ∙ row m h)
+      ∙ symbol-is s p ys (coefs (s .k) b) (v .size) (omega (arith, length-drop (s .k * (s .k + 1)) b, filled-room (s .field) (s .k) a z E (R .size)))
+      (λ m h. filled-coefs (s .field) (s .k) a z E (R .size) m h ∙ R .entry m h)
 
   pub taken : (ws ms d : List ℕ) (r : Bool) → at ms p ≢ 1 → Inserted (s .field) (s .k) (at ws p) b d r → Taken s p ws ms a d r
   taken ws ms d r n I =

@@ -2,7 +2,8 @@ use mathlib.Core.Path.{refl}
 use borrow.Author.Needs.{needs}
 use Prim.Native.Nat.{_+_, _*_}
 use Rattle.field.proofs.Elem.{zero-below}
-use Rattle.annihilator.proofs.Gaps.{start, filled-echelon, filled-below, gathered-more}
+use Rattle.linear.proofs.Newcomer.{start, filled-echelon}
+use Rattle.annihilator.proofs.Gaps.{filled-below, gathered-more}
 use Rattle.annihilator.proofs.take_gap.Statement.{statement}
 use Rattle.annihilator.proofs.take_gap.Tie as tie
 
@@ -37,7 +38,7 @@ insert-requires c κs =
     let a = s .args in
     let d = c .before .before .before .fill-row in
     let G = s .pre .3 in (
-      filled-echelon (a .field) (a .t) (a .j * a .size + a .r) (a .row .now) (s .pre .2) (a .work .now) (d .last .1 .1 .1 .0) (G .echelon) (d .ensures),
+      filled-echelon (a .field) (a .t) (a .work .now) (d .last .1 .1 .1 .0) (G .echelon) (d .ensures .size),
       filled-below (a .field) (a .t) (a .j * a .size + a .r) (a .row .now) (s .pre .2) (a .work .now) (d .last .1 .1 .1 .0) (G .echelon) (d .ensures),
       zero-below (a .field),
       s .pre .4,

@@ -1,4 +1,5 @@
-use Rattle.elimination.proofs.Equations.{start, part-room, filled-echelon, filled-below, taken, taken-lost}
+use Rattle.linear.proofs.Newcomer.{start, part-room, filled-echelon}
+use Rattle.elimination.proofs.Equations.{filled-below, taken, taken-lost}
 use Rattle.code.proofs.Fits.{kept-symbol}
 use borrow.Author.Needs.{needs}
 use Rattle.elimination.proofs.take_slot.Statement.{statement}
@@ -33,7 +34,7 @@ unfolding start
 fill-row-requires c κs =
     let s = c .before .before .before .before .before .before .before in
     let a = s .args in
-    (s .pre .4, s .pre .5, s .pre .0, s .pre .1, part-room (a .shape) (a .work .now) (s .pre .3))
+    (s .pre .4, s .pre .5, s .pre .0, s .pre .1, part-room (a .shape .field) (a .shape .k) (a .work .now) (s .pre .3))
 
 shared-slice-read-insert : tie.Need-shared-slice-read-insert
 shared-slice-read-insert c = search needs
@@ -44,7 +45,7 @@ insert-requires c κs =
     let s = c .before .before .before .before .before .before .before .before .before .before .before .before in
     let a = s .args in
     let d = c .before .before .before .before .fill-row in (
-      filled-echelon (a .shape) (a .p) (s .pre .0 .family) (a .work .now) (d .last .1 .1 .0) (s .pre .3) (d .ensures),
+      filled-echelon (a .shape .field) (a .shape .k) (a .work .now) (d .last .1 .1 .0) (s .pre .3) (d .ensures .size),
       filled-below (a .shape) (a .p) (s .pre .0 .family) (a .work .now) (d .last .1 .1 .0) (s .pre .3) (d .ensures),
       kept-symbol (a .shape) (a .word .now) (a .marks .now) (s .pre .2 .kept) (a .p) (s .pre .1) (c .before .before .before .before .before .before .before .if1 .left),
       s .pre .4,
