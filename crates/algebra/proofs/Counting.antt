@@ -5,9 +5,10 @@
 --   count-add, count-mono              the numbers below a, and b more
 --   count-same, count-split            two tests that agree; two of which one holds everywhere
 --   count-some, count-one              one that passes, and the only one
+--   count-not                          those that pass, and those that do not
 use mathlib.Core.Path.{_≡_, refl, sym, ap, ap₂, _∙_}
 use mathlib.Core.Logic.{_≢_}
-use mathlib.Core.Bool.{Bool, true, false, cond, _||_}
+use mathlib.Core.Bool.{Bool, true, false, cond, not, _||_}
 use Prim.Native.Nat.{ℕ, zero, suc, _+_, _-_, _≤_, _<_, zero-le}
 use native.Mathlib.Nat.{add-zero, add-suc, le-refl, not-suc-le-zero}
 use native.Mathlib.Decide.{ℕ-discrete, decLt}
@@ -96,3 +97,13 @@ count-one t n i k c h l e d = no-false (t k) (λ p. go p (decLt i k))
     go : T (t k) → Dec (i < k) → ⊥
     go p (yes b) = omega (arith, count-two t n i k b l e (yes-true (t k) p))
     go p (no b) = omega (arith, count-two t n k i (omega arith) h (yes-true (t k) p) e)
+
+-- those that pass a test, and those that do not
+pub count-not : (t : ℕ → Bool) (n : ℕ) → count (λ i. not (t i)) n + count t n ≡ n
+unfolding count
+count-not t zero = omega arith
+count-not t (suc n) = go (t n) (count-not t n)
+  where
+    go : (b : Bool) → count (λ i. not (t i)) n + count t n ≡ n → cond (not b) 1 0 + count (λ i. not (t i)) n + (cond b 1 0 + count t n) ≡ suc n
+    go true e = omega arith
+    go false e = omega arith

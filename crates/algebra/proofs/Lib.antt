@@ -25,6 +25,7 @@ pub mod Zeros
 pub mod Leading
 pub mod Monic
 pub mod Blocks
+pub mod Cofactors
 pub mod Mixed
 pub mod Triangular
 pub mod Shortened

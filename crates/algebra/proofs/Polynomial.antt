@@ -200,7 +200,7 @@ module _ (F : Field) where
   infixl 60 _⊕_
   infixl 60 _⊖_
   infixl 70 _⊗_
-  root-of-div : (c : El) (cs : List El) (a : El) → eval ring (c ∷ cs) a ≡ 𝟘 → (x : El) → eval ring (c ∷ cs) x ≡ 𝟘 → x ≢ a
+  pub root-of-div : (c : El) (cs : List El) (a : El) → eval ring (c ∷ cs) a ≡ 𝟘 → (x : El) → eval ring (c ∷ cs) x ≡ 𝟘 → x ≢ a
       → eval ring (div ring a cs) x ≡ 𝟘
   root-of-div c cs a p x r h =
       same-multiple F x a (eval ring (div ring a cs) x) h

@@ -3,10 +3,12 @@
 --   length-splice, spliced-in, spliced-out    its length, and its entries in that place and elsewhere
 --   laid-splice        a list laid down in a buffer stands in the place of what was there
 --   laid-front, laid-all    it is the front of the buffer, or all of it
+--   copied-front            so is a list that was copied there
 use mathlib.Core.Path.{_≡_, sym, ap, _∙_}
 use mathlib.Core.Logic.{_≢_}
 use mathlib.Core.List.{List, _++_}
 use Prim.Native.Nat.{ℕ, _+_, _-_, _≤_, _<_}
+use native.Mathlib.Nat.{zero-add}
 use native.Mathlib.Decide.{decLt}
 use native.Mathlib.Omega.{arith}
 use lib.ListN.{length, take, drop, length-append, length-drop, List·getD-append}
@@ -73,3 +75,6 @@ module _ (xs : List ℕ) (h : ℕ → ℕ) (n : ℕ) (e : length xs ≡ n) (same
 
   pub laid-all : length a ≡ n → Laid h 0 n a z → z ≡ xs
   laid-all l L = sym (take-all n z (omega (arith, L .written .size))) ∙ laid-front (omega arith) L
+
+pub copied-front : (n : ℕ) (xs a z : List ℕ) → length xs ≡ n → n ≤ length a → Laid (λ i. at xs (0 + i)) 0 n a z → take n z ≡ xs
+copied-front n xs a z e l L = laid-front xs (λ i. at xs (0 + i)) n e (λ i h. ap (at xs) (zero-add i)) a z l L

@@ -4,15 +4,17 @@
 --   length-table, at-table           length and entries of a list that is such a list
 --   tabulate-suc                     one entry more, at the end
 --   each-tabulate                    what holds of each entry
+--   from-each, from-distinct         each entry is so, from a number on; no entry twice
 use mathlib.Core.Path.{_≡_, refl, sym, ap, _∙_}
 use mathlib.Core.List.{List, [], _∷_, _++_}
-use Prim.Native.Nat.{ℕ, zero, suc, _+_, _<_}
+use mathlib.Core.Logic.{_≢_}
+use Prim.Native.Nat.{ℕ, zero, suc, _+_, _≤_, _<_}
 use native.Mathlib.Nat.{add-zero, add-suc, suc-add, zero-add, not-suc-le-zero, le-of-suc-le-suc}
 use native.Mathlib.Numerals.{add-one}
 use native.Mathlib.Omega.{arith}
 use lib.ListN.{length, getD}
 use lib.Seq.{ext-getD}
-use Rattle.algebra.specs.Sequence.{at, tabulate-from, tabulate, Each}
+use Rattle.algebra.specs.Sequence.{at, tabulate-from, tabulate, Each, Distinct}
 
 module _ {A : Type 0} (f : ℕ → A) where
   pub length-from : (l i : ℕ) → length (tabulate-from f l i) ≡ l
@@ -57,6 +59,19 @@ module _ {A : Type 0} (f : ℕ → A) where
   pub each-tabulate : (P : A → Type 0) (n : ℕ) → Each P (tabulate f n) → (i : ℕ) → i < n → P (f i)
   unfolding tabulate
   each-tabulate P n e i h = rw zero-add at (each-from P n 0 e i h)
+
+  pub from-each : (P : A → Type 0) (l i : ℕ) → ((p : ℕ) → i ≤ p → p < i + l → P (f p)) → Each P (tabulate-from f l i)
+  unfolding tabulate-from
+  from-each P zero i h = tt
+  from-each P (suc l) i h = (h i (omega arith) (omega arith), from-each P l (suc i) (λ p a b. h p (omega arith) (omega arith)))
+
+  pub from-distinct : (l i : ℕ) → ((p o : ℕ) → i ≤ p → p < i + l → i ≤ o → o < i + l → f p ≡ f o → p ≡ o) → Distinct (tabulate-from f l i)
+  unfolding tabulate-from
+  from-distinct zero i h = tt
+  from-distinct (suc l) i h = (
+    from-each (λ y. y ≢ f i) l (suc i) (λ p a b e. absurd (omega (arith, h p i (omega arith) (omega arith) (omega arith) (omega arith) e))),
+    from-distinct l (suc i) (λ p o a b c d. h p o (omega arith) (omega arith) (omega arith) (omega arith)),
+  )
 
 pub tabulate-same : {A : Type 0} (d : A) (f g : ℕ → A) (n : ℕ) → ((i : ℕ) → i < n → f i ≡ g i) → tabulate f n ≡ tabulate g n
 tabulate-same d f g n h = tabulate-is g d n (tabulate f n) (length-tabulate f n) (λ i b. at-tabulate f d n i b ∙ h i b)

@@ -1,2 +1,3 @@
 pub mod Pointing
+pub mod Reading
 pub mod Interpolating

@@ -27,7 +27,7 @@ fn fill_group(shape: Shape, group: u32, points: &mut [u8; 256], powers: &[u8; 25
 }
 
 // Writes the points of the slots.
-fn fill_points(shape: Shape, points: &mut [u8; 256], powers: &[u8; 255])
+pub fn fill_points(shape: Shape, points: &mut [u8; 256], powers: &[u8; 255])
     requires { ⌜ Powers 1 (now powers) × Whole shape × (length (now points) ≡ 256) ⌝ }
     ensures { λ _. ⌜ Pointed shape (room shape) (now (points .exit)) ⌝ }
 {

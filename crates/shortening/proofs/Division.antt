@@ -16,11 +16,12 @@ use lib.Seq.{drop-cons, getD-drop, getD-set-same, getD-set-other}
 use Rattle.algebra.specs.Ring.{Ring}
 use Rattle.algebra.specs.Sequence.{at, all-below}
 use Rattle.algebra.specs.Polynomial.{eval}
-use Rattle.algebra.proofs.Ring.{nil-add, mul-nil, add-cancel, sub-mul, eq-of-sub, no-divisors}
+use Rattle.algebra.proofs.Ring.{nil-add, mul-nil, eq-of-sub, no-divisors}
 use Rattle.algebra.proofs.Booleans.{and-right}
 use Rattle.algebra.proofs.At.{at-past}
 use Rattle.algebra.proofs.Below.{all-below-intro}
-use Rattle.algebra.proofs.Polynomial.{div, divides}
+use Rattle.algebra.proofs.Polynomial.{div}
+use Rattle.algebra.proofs.Cofactors.{factor}
 use Rattle.field.specs.Field.{q, plus, times}
 use Rattle.field.specs.Polynomial.{poly}
 use Rattle.field.proofs.Elem.{Elem, same, ring-of, field-of, el, el-is}
@@ -97,10 +98,7 @@ module _ (f : ℕ) (y : Elem f) where
       where
         go : (a : List ℕ) → eval R (els f a) y ≡ R .nil → eval R (els f a) x ≡ R .mul (R .sub x y) (eval R (div R y (els f (drop 1 a))) x)
         go [] r = sym (mul-nil R (R .sub x y))
-        go (c ∷ cs) r =
-            let v = eval R (div R y (els f cs)) x in
-            add-cancel R (eval R (els f (c ∷ cs)) x) (R .mul (R .sub x y) v) (R .mul y v)
-            (divides R (el f c) (els f cs) x y ∙ ap (λ u. R .add u (R .mul x v)) r ∙ nil-add R (R .mul x v) ∙ sym (sub-mul R x y v))
+        go (c ∷ cs) r = factor (field-of f) (el f c) (els f cs) x y r
 
     pub divided-root : eval (ring-of f) (els f a) y ≡ ring-of f .nil → (x : Elem f) → x ≢ y → eval (ring-of f) (els f a) x ≡ ring-of f .nil
         → eval (ring-of f) (els f z) x ≡ ring-of f .nil

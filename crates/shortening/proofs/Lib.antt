@@ -4,3 +4,5 @@ pub mod Division
 pub mod Quotient
 pub mod Shortening
 pub mod Lengthening
+pub mod Extending
+pub mod Shortened

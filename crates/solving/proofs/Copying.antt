@@ -1,14 +1,12 @@
--- The copies that local repair works on: the marks, and the word with 0 in its lost places. Assumes nothing.
---   front                    the front of a buffer that a list was copied to is the list
+-- The copy of the word that local repair works on, with 0 in its lost places. Assumes nothing.
 --   Kept-same                two words have the same kept symbols
 --   loaded-size, loaded      the front of a row that was loaded has n entries, and the word's kept symbols
 --   received-loaded, verdict-loaded    what asks for the kept symbols only is the same of both words
-use mathlib.Core.Path.{_≡_, sym, ap, _∙_}
+use mathlib.Core.Path.{_≡_, sym, _∙_}
 use mathlib.Core.Logic.{_≢_}
 use mathlib.Core.Bool.{true, _||_}
 use mathlib.Core.List.{List}
-use Prim.Native.Nat.{ℕ, _+_, _≤_, _<_}
-use native.Mathlib.Nat.{zero-add}
+use Prim.Native.Nat.{ℕ, _≤_, _<_}
 use native.Mathlib.Decide.{ℕ-discrete}
 use native.Mathlib.Omega.{arith}
 use lib.Dec.{T, eqb, ltb, lt→ltb}
@@ -16,10 +14,9 @@ use lib.ListN.{length, take}
 use lib.Seq.{length-take-le, getD-take}
 use borrow.Author.Tests.{eq-eqb}
 use Rattle.algebra.specs.Sequence.{at}
-use Rattle.algebra.specs.Writing.{Written, Laid}
+use Rattle.algebra.specs.Writing.{Written}
 use Rattle.algebra.proofs.Booleans.{so, yes-true, or-left, or-right}
 use Rattle.algebra.proofs.Every.{every-intro}
-use Rattle.algebra.proofs.Splicing.{laid-front}
 use Rattle.field.specs.Field.{q}
 use Rattle.code.specs.Decoding.{lost, fits}
 use Rattle.code.specs.Erasure.{kept-below}
@@ -31,11 +28,6 @@ use Rattle.code.specs.Step.{Received}
 use Rattle.code.proofs.Fits.{kept-symbol, fits-to, fits-of}
 use Rattle.code.proofs.Verdicts.{verdict-same}
 
--- the marks
-pub front : (n : ℕ) (xs a z : List ℕ) → length xs ≡ n → n ≤ length a → Laid (λ i. at xs (0 + i)) 0 n a z → take n z ≡ xs
-front n xs a z e l L = laid-front xs (λ i. at xs (0 + i)) n e (λ i h. ap (at xs) (zero-add i)) a z l L
-
--- the word
 abbrev pub Kept-same : (n : ℕ) → (word other marks : List ℕ) → Type 0
 Kept-same n ws vs ms = (p : ℕ) → p < n → at ms p ≢ 1 → at vs p ≡ at ws p
 

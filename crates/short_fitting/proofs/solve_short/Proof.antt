@@ -9,7 +9,8 @@ use Rattle.code.specs.Shape.{room, missing}
 use Rattle.code.specs.Laws.{Decodable}
 use Rattle.code.proofs.Places.{n-room}
 use Rattle.code.proofs.Bounds.{n-most, row-byte}
-use Rattle.short_fitting.proofs.Padding.{Padded, padded, padded-received, padded-lost, padded-verdict}
+use Rattle.shortening.proofs.Extending.{extended-lost}
+use Rattle.short_fitting.proofs.Padding.{Padded, padded, padded-received, padded-verdict}
 use Rattle.short_fitting.proofs.solve_short.Statement.{statement}
 use Rattle.short_fitting.proofs.solve_short.Tie as tie
 
@@ -93,10 +94,10 @@ solve-long-requires c κs =
       D,
       s .pre .1,
       padded-received (a .shape) P (a .word .now) (a .marks .now) vs ns W' (s .pre .2),
-      W' .behind,
+      λ p h. (W' .behind p h, W' .marks .behind p h),
       length-take-le _ (replicate 256 0) (omega (arith, n, length-replicate {A = ℕ} 256 0)) ∙ n .0,
       s .pre .3,
-      omega (arith, s .pre .4, padded-lost (a .shape) P (a .word .now) (a .marks .now) vs ns W'),
+      omega (arith, s .pre .4, extended-lost (a .shape) P (a .marks .now) ns (W' .marks)),
       s .pre .5,
       s .pre .6,
     )

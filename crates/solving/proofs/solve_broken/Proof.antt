@@ -9,7 +9,8 @@ use Rattle.code.specs.Laws.{Decodable}
 use Rattle.code.proofs.Bounds.{n-most}
 use Rattle.code.specs.Verdict.{Verdict}
 use Rattle.code.specs.Step.{Received}
-use Rattle.solving.proofs.Copying.{front, loaded-size, loaded, received-loaded, verdict-loaded}
+use Rattle.algebra.proofs.Splicing.{copied-front}
+use Rattle.solving.proofs.Copying.{loaded-size, loaded, received-loaded, verdict-loaded}
 use Rattle.solving.proofs.solve_broken.Statement.{statement}
 use Rattle.solving.proofs.solve_broken.Tie as tie
 
@@ -65,7 +66,7 @@ slice-aggregate-solve-mended-2 : tie.Need-slice-aggregate-solve-mended-2
 slice-aggregate-solve-mended-2 c =
     let s = c .before .before .before .before .before .before .before .before .before .before .before .before in
     let a = s .args in
-    sym (ap (λ (xs : List ℕ). length xs) (front (a .shape .n) (a .marks .now) unmarked (c .before .before .before .copy .last .1 .1 .1 .0) (s .pre .1 .received .marks) (marks-room (a .shape) (s .pre .0)) (c .before .before .before .copy .ensures)) ∙ s .pre .1 .received .marks)
+    sym (ap (λ (xs : List ℕ). length xs) (copied-front (a .shape .n) (a .marks .now) unmarked (c .before .before .before .copy .last .1 .1 .1 .0) (s .pre .1 .received .marks) (marks-room (a .shape) (s .pre .0)) (c .before .before .before .copy .ensures)) ∙ s .pre .1 .received .marks)
 
 solve-mended-requires : tie.Need-solve-mended-requires
 solve-mended-requires c κs =
@@ -73,7 +74,7 @@ solve-mended-requires c κs =
     let a = s .args in
     let t = c .before .before .before .before .before .before .load in
     let vs = take (a .shape .n) (t .last .1 .1 .1 .0) in
-    let l = front (a .shape .n) (a .marks .now) unmarked (c .before .before .before .before .copy .last .1 .1 .1 .0) (s .pre .1 .received .marks) (marks-room (a .shape) (s .pre .0)) (c .before .before .before .before .copy .ensures) in (
+    let l = copied-front (a .shape .n) (a .marks .now) unmarked (c .before .before .before .before .copy .last .1 .1 .1 .0) (s .pre .1 .received .marks) (marks-room (a .shape) (s .pre .0)) (c .before .before .before .before .copy .ensures) in (
       s .pre .0,
       subst (Received (a .shape) vs) (sym l)
           (received-loaded (a .shape) (a .word .now) vs (a .marks .now) (loaded (a .shape .n) (a .word .now) (a .marks .now) zeros (t .last .1 .1 .1 .0) (t .ensures))
@@ -117,7 +118,7 @@ returns-2 c =
     let a = s .args in
     let d = c .before .before .before .before .before .before .before .before .before .before .before .before .before .before .before .before .load in
     let vs = take (a .shape .n) (d .last .1 .1 .1 .0) in
-    let l = front (a .shape .n) (a .marks .now) unmarked (c .before .before .before .before .before .before .before .before .before .before .before .before .before .before .copy .last .1 .1 .1 .0) (s .pre .1 .received .marks) (marks-room (a .shape) (s .pre .0)) (c .before .before .before .before .before .before .before .before .before .before .before .before .before .before .copy .ensures) in
+    let l = copied-front (a .shape .n) (a .marks .now) unmarked (c .before .before .before .before .before .before .before .before .before .before .before .before .before .before .copy .last .1 .1 .1 .0) (s .pre .1 .received .marks) (marks-room (a .shape) (s .pre .0)) (c .before .before .before .before .before .before .before .before .before .before .before .before .before .before .copy .ensures) in
     let t = c .before .before .before .before .before .before .before .before .before .solve-mended in (
       verdict-loaded (a .shape) (a .word .now) vs (a .marks .now) (loaded (a .shape .n) (a .word .now) (a .marks .now) zeros (d .last .1 .1 .1 .0) (d .ensures))
           (a .message .now) (t .last .1 .1 .1 .0) (t .result)
