@@ -1,0 +1,2 @@
+mod Polynomials
+mod Mothers
