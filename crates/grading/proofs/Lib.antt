@@ -1,2 +1,3 @@
 mod Grades
 mod Refusals
+pub mod Replies

@@ -1,1 +1,2 @@
 pub mod Grade
+pub mod Step

@@ -1,6 +1,6 @@
-use mathlib.Core.Path.{sym, _∙_}
-use Rattle.code.proofs.Accepted.{plain-of}
 use borrow.Author.Needs.{needs}
+use mathlib.Core.Path.{sym, _∙_}
+use Rattle.code.proofs.Accepted.{decodable-of}
 use Rattle.grading.proofs.grade.Statement.{statement}
 use Rattle.grading.proofs.grade.Tie as tie
 
@@ -11,10 +11,16 @@ single-requires : tie.Need-single-requires
 single-requires c κs = search needs
 
 grade-with-requires : tie.Need-grade-with-requires
-grade-with-requires c κs z = rw (c .single .ensures) (plain-of (c .before .before .before .args .code) (sym (c .before .code-refusal .ensures) ∙ z))
+grade-with-requires c κs z =
+    rw (c .before .single .ensures) (decodable-of (c .before .before .before .before .before .args .code) (sym (c .before .before .code-refusal .ensures) ∙ z))
+
+same-length : tie.Need-same-length
+same-length c = search needs
 
 returns : tie.Need-returns
-returns c = rw (c .before .before .code-refusal .ensures, c .before .single .ensures) at (c .grade-with .ensures)
+returns c = rw (c .before .before .before .before .before .code-refusal .ensures, c .before .before .before .before .single .ensures) at (c .before .before .grade-with .ensures)
 
 pub grade-spec : {M : Type 1} → statement M
-grade-spec = tie.close (tie.spec code-refusal-requires single-requires grade-with-requires returns)
+grade-spec =
+    tie.close
+    (tie.spec code-refusal-requires single-requires grade-with-requires same-length returns)
