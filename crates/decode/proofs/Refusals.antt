@@ -3,12 +3,10 @@
 --   lengths   both lengths are right where they pass
 --   handed    what holds where no question refuses
 --   none      no question refuses where that holds
---   room      work has room for the rows
 use mathlib.Core.Path.{_≡_, refl, sym, ap, _∙_}
 use mathlib.Core.Bool.{Bool, true, _&&_}
 use mathlib.Core.List.{List}
 use Prim.Native.Nat.{ℕ, _+_, _*_, _≤_}
-use native.Mathlib.Nat.{mul-le-mul-right, suc-mul}
 use borrow.Author.Tests.{eq-eqb, le-leb}
 use lib.Dec.{T, eqb, leb, eqb→eq, leb→le}
 use lib.ListN.{length}
@@ -19,11 +17,9 @@ use Rattle.code.specs.Question.{ask, or-ask}
 use Rattle.code.specs.Erasure.{kept-below}
 use Rattle.code.specs.Laws.{Decodable}
 use Rattle.code.proofs.Questions.{ask-then, ask-and, ask-yes, asked, or-ask-on, or-ask-passed}
-use Rattle.decode.specs.Decode.{used, decode-refusal}
+use Rattle.code.specs.Work.{used}
+use Rattle.decode.specs.Decode.{decode-refusal}
 use Rattle.decode.specs.Step.{Handed}
-
-pub room : (s : Shape) → Decodable s → s .k * (s .k + 1) + (s .k + 1) ≤ s .n * (s .k + 1)
-room s D = rw suc-mul at (mul-le-mul-right (s .k + 1) (D .plain .family .k-below))
 
 -- x₁ to x₅ are what is answered so far after each question
 pub chain : (n x₁ x₂ x₃ x₄ x₅ : ℕ) (w m x y z : Bool) → x₁ ≡ or-ask n (ask w 5 0) → x₂ ≡ or-ask x₁ (ask m 5 0) → x₃ ≡ or-ask x₂ (ask x 5 0)

@@ -9,7 +9,8 @@ use Prim.Native.Nat.{ℕ, zero, suc}
 use lib.ListN.{length}
 use Rattle.code.specs.declared.Shape.{Shape}
 use Rattle.code.specs.Verdict.{Verdict, one, none, more}
-use Rattle.decode.specs.Decode.{decode-refusal, cleared, Decode-as, Decode-says}
+use Rattle.code.specs.Work.{cleared}
+use Rattle.decode.specs.Decode.{decode-refusal, Decode-as, Decode-says}
 
 -- a verdict is one of three numbers
 pub is-verdict : (s : Shape) (ws ms a z : List ℕ) (x : ℕ) → Verdict s ws ms a z x → x ≢ 0 → x ≢ 9 → x ≡ 10

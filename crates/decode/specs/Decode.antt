@@ -1,22 +1,18 @@
 -- What decode answers, writes and leaves behind. Assumes nothing: these are definitions.
---   used s          == how many bytes of work are used
 --   decode-refusal  the refusal n of the code's numbers, then questions 5, 8, 6
---   cleared s w     == the work buffer w with its first n × (k + 1) bytes 0
 --   Decode-says     the verdict with work cleared, or the refusal with both buffers unchanged
 use mathlib.Core.Path.{_≡_}
 use mathlib.Core.Bool.{_&&_}
-use mathlib.Core.List.{List, _++_}
-use Prim.Native.Nat.{ℕ, zero, suc, _+_, _*_}
+use mathlib.Core.List.{List}
+use Prim.Native.Nat.{ℕ, zero, suc}
 use lib.Dec.{eqb, leb}
-use lib.ListN.{length, drop, replicate}
+use lib.ListN.{length}
 use Rattle.algebra.specs.Sequence.{all-below}
 use Rattle.code.specs.Question.{ask, or-ask}
 use Rattle.code.specs.Erasure.{kept-below}
 use Rattle.code.specs.Verdict.{Verdict}
+use Rattle.code.specs.Work.{used, cleared}
 use Rattle.code.specs.declared.Shape.{Shape}
-
-unfoldable pub used : Shape → ℕ
-used s = s .n * (s .k + 1)
 
 unfoldable pub decode-refusal : (refusal : ℕ) → Shape → (word marks : List ℕ) → (message work : ℕ) → ℕ
 decode-refusal n s ws ms a b =
@@ -24,9 +20,6 @@ decode-refusal n s ws ms a b =
     (ask ((eqb (length ws) (s .n) && eqb (length ms) (s .n)) && (eqb a (s .k) && leb (used s) b)) 5
     (ask (all-below 2 ms) 8
     (ask (kept-below s ws ms) 6 0)))
-
-unfoldable pub cleared : Shape → List ℕ → List ℕ
-cleared s w = replicate (used s) 0 ++ drop (used s) w
 
 unfoldable pub Decode-as : (refusal : ℕ) → Shape → (word marks : List ℕ) → (x : ℕ) → (message message-now work work-now : List ℕ) → Type 0
 Decode-as zero s ws ms x a z w v = Verdict s ws ms a z x × (v ≡ cleared s w)

@@ -16,7 +16,8 @@ use Rattle.code.specs.Decoding.{agrees}
 use Rattle.code.specs.Erasure.{lost-number}
 use Rattle.code.specs.Laws.{Family}
 use Rattle.code.specs.Promise.{Message, One-agrees}
-use Rattle.decode.specs.Decode.{decode-refusal, cleared, Decode-says}
+use Rattle.code.specs.Work.{cleared}
+use Rattle.decode.specs.Decode.{decode-refusal, Decode-says}
 
 -- two different codewords agree with every kept symbol
 pub record Two-agree (s : Shape) (ws ms : List ℕ) : Type 0 where

@@ -13,7 +13,8 @@ use Rattle.code.specs.Erasure.{lost-number, grade, first-broken}
 use Rattle.code.specs.Family.{single, code-refusal}
 use Rattle.code.specs.declared.Code.{Code}
 use Rattle.code.specs.Verdict.{Verdict}
-use Rattle.decode.specs.Decode.{decode-refusal, cleared}
+use Rattle.code.specs.Work.{cleared}
+use Rattle.decode.specs.Decode.{decode-refusal}
 use Rattle.recording.specs.Recording.{outcome-number}
 use Rattle.recording.specs.declared.StripeRecord.{StripeRecord}
 use Rattle.binding.specs.Pack.{code-row}

@@ -11,7 +11,8 @@ use Rattle.code.specs.Erasure.{lost-number, grade, first-broken}
 use Rattle.code.specs.declared.Code.{Code}
 use Rattle.code.specs.declared.Shape.{Shape}
 use Rattle.code.specs.Verdict.{Verdict}
-use Rattle.decode.specs.Decode.{decode-refusal, cleared}
+use Rattle.code.specs.Work.{cleared}
+use Rattle.decode.specs.Decode.{decode-refusal}
 use Rattle.recording.specs.declared.Outcome.{Outcome}
 use Rattle.recording.specs.declared.Outcome.the-variants.{Decided, Foreign, Undecided}
 use Rattle.recording.specs.declared.StripeRecord.{StripeRecord}

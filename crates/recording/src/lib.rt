@@ -98,7 +98,7 @@ pub fn record_with(
     let verdict = decode::settle(shape, word, marks, message, work);
     let lost = losses::count_lost(shape, marks);
     let guarantee = losses::guarantee_of(shape);
-    let grade = grading::grade_of(shape, marks);
+    let grade = grading::grade_in(shape, marks, work);
     let first = losses::first_group(shape, marks);
     let outcome = outcome_of(verdict);
     let record = StripeRecord {

@@ -6,8 +6,7 @@ use mathlib.Core.Bool.{Bool, true, false, cond}
 use mathlib.Core.List.{List}
 use Prim.Native.Nat.{ℕ, zero, suc, _+_, _≤_, _<_}
 use native.Mathlib.Omega.{arith}
-use lib.Dec.{eqb, leb}
-use Rattle.algebra.specs.Sequence.{every}
+use lib.Dec.{eqb}
 use Rattle.algebra.proofs.Counting.{count-most}
 use Rattle.code.specs.Question.{ask, or-ask}
 use Rattle.code.specs.declared.Code.{Code}
@@ -18,6 +17,7 @@ use Rattle.code.specs.Decoding.{lost}
 use Rattle.code.specs.Erasure.{lost-number, stands, first-from, first-broken, grade}
 use Rattle.code.specs.Family.{single, code-refusal}
 use Rattle.code.proofs.Accepted.{plain-of}
+use Rattle.code.proofs.Graded.{grade-most}
 use Rattle.code.proofs.Bounds.{n-most, r-most, groups-most, k-most}
 use Rattle.sheet.specs.Calls.{body-refusal, sheet-refusal}
 use Rattle.text.specs.Text.{Small}
@@ -30,16 +30,6 @@ first-most s ms (suc l) j h = go (stands s ms j) (first-most s ms l (suc j) (ome
     go : (b : Bool) → first-from l (suc j) s ms ≤ 255 → cond b (first-from l (suc j) s ms) j ≤ 255
     go true i = i
     go false i = omega arith
-
-grade-most : (s : Shape) (ms : List ℕ) → grade s ms ≤ 3
-unfolding grade
-grade-most s ms = go (eqb (lost-number s ms) 0) (every (stands s ms) (groups s)) (leb (lost-number s ms) (guarantee s))
-  where
-    go : (x y z : Bool) → cond x 0 (cond y 1 (cond z 2 3)) ≤ 3
-    go true y z = omega arith
-    go false true z = omega arith
-    go false false true = omega arith
-    go false false false = omega arith
 
 pub small-numbers : (c : Code) (ms : List ℕ) (v : ℕ) → code-refusal c ≡ 0 → v < 1000
     → Small c (lost-number (single c) ms) (guarantee (single c)) (grade (single c) ms) (first-broken (single c) ms) v

@@ -9,7 +9,8 @@ use Rattle.code.specs.Question.{ask, or-ask}
 use Rattle.code.specs.Erasure.{kept-below}
 use Rattle.code.proofs.Questions.{or-ask-stop}
 use Rattle.code.proofs.Bounds.{work-most}
-use Rattle.decode.specs.Decode.{used, decode-refusal}
+use Rattle.code.specs.Work.{used}
+use Rattle.decode.specs.Decode.{decode-refusal}
 use Rattle.decode.proofs.Refusals.{chain, lengths}
 use Rattle.decode.proofs.decode_refusal.Statement.{statement}
 use Rattle.decode.proofs.decode_refusal.Tie as tie

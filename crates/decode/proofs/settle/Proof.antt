@@ -1,11 +1,8 @@
 use borrow.Author.Needs.{needs}
-use mathlib.Core.Path.{sym, ap, _∙_}
-use mathlib.Core.List.{_++_}
-use Prim.Native.Nat.{ℕ, _+_, _*_}
-use lib.ListN.{drop, replicate}
+use mathlib.Core.Path.{sym}
+use Prim.Native.Nat.{_+_, _*_}
 use lib.Seq.{length-take-le}
-use Rattle.decode.specs.Decode.{used, cleared}
-use Rattle.decode.proofs.Refusals.{room}
+use Rattle.code.proofs.Working.{front-cleared, used-least}
 use Rattle.decode.proofs.settle.Statement.{statement}
 use Rattle.decode.proofs.settle.Tie as tie
 
@@ -37,7 +34,7 @@ solve-requires c κs =
       record {
         received = record { word = H .word-size; marks = H .marks-size; kept = H .kept };
         message = H .message-size;
-        work = rw (length-take-le (e .args .shape .n * (e .args .shape .k + 1)) (e .args .work .now) (H .work-size)) (room (e .args .shape) (H .shape));
+        work = rw (length-take-le (e .args .shape .n * (e .args .shape .k + 1)) (e .args .work .now) (H .work-size)) (used-least (e .args .shape) (H .shape .plain .family .k-below));
       },
     )
 
@@ -48,15 +45,11 @@ same-length-2 : tie.Need-same-length-2
 same-length-2 c = search needs
 
 returns : tie.Need-returns
-unfolding cleared used
 returns c =
     let e = c .before .before .before .before .before .before .before .before .before .before .before .before .before in
     let a = e .args in
-    let t = c .before .before .before .before .solve in (
-      t .ensures .0,
-      ap (λ z. z ++ drop (a .shape .n * (a .shape .k + 1)) (a .work .now))
-          (t .ensures .1 ∙ ap (λ (l : ℕ). replicate l 0) (length-take-le (a .shape .n * (a .shape .k + 1)) (a .work .now) (e .pre .work-size))),
-    )
+    let t = c .before .before .before .before .solve in
+    (t .ensures .0, front-cleared (a .shape) (a .work .now) (t .last .1 .1 .1 .1 .0) (e .pre .work-size) (t .ensures .1))
 
 pub settle-spec : {M : Type 1} → statement M
 settle-spec =

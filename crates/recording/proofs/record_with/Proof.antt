@@ -1,6 +1,9 @@
 use borrow.Author.Needs.{needs}
-use mathlib.Core.Path.{refl, sym, _∙_}
+use mathlib.Core.Path.{refl, sym, ap, _∙_}
+use native.Mathlib.Omega.{arith}
 use lib.ListN.{length}
+use Rattle.code.specs.Work.{cleared}
+use Rattle.code.proofs.Working.{cleared-twice}
 use Rattle.decode.specs.Step.{Handed}
 use Rattle.decode.proofs.Refusals.{handed}
 use Rattle.decode.proofs.Replies.{is-verdict}
@@ -36,16 +39,18 @@ count-lost-requires c κs = let H = given (c .before .before .before .before .be
 guarantee-of-requires : tie.Need-guarantee-of-requires
 guarantee-of-requires c κs = let L = given (c .before .before .before .before .before .before .before .before) .shape .plain in (L .family, L .second-none)
 
-grade-of-requires : tie.Need-grade-of-requires
-grade-of-requires c κs = let H = given (c .before .before .before .before .before .before .before .before .before) in (H .shape .plain, H .marks-size)
+grade-in-requires : tie.Need-grade-in-requires
+grade-in-requires c κs =
+    let H = given (c .before .before .before .before .before .before .before .before .before .before) in
+    record { shape = H .shape; marks-size = H .marks-size; work-size = omega (arith, H .work-size, c .before .before .before .before .before .before .before .settle .kept .1 .1 .1 .1 .0) }
 
 first-group-requires : tie.Need-first-group-requires
-first-group-requires c κs = let H = given (c .before .before .before .before .before .before .before .before .before .before) in (H .shape .plain .family .placed, H .marks-size)
+first-group-requires c κs = let H = given (c .before .before .before .before .before .before .before .before .before .before .before .before .before) in (H .shape .plain .family .placed, H .marks-size)
 
 outcome-of-requires : tie.Need-outcome-of-requires
 outcome-of-requires c κs =
-    let a = c .before .before .before .before .before .before .before .before .before .before .before .before .before .before .before .before .before .args in
-    let t = c .before .before .before .before .before .before .before .before .settle in
+    let a = c .before .before .before .before .before .before .before .before .before .before .before .before .before .before .before .before .before .before .before .before .args in
+    let t = c .before .before .before .before .before .before .before .before .before .before .before .settle in
     is-verdict (a .shape) (a .word .now) (a .marks .now) (a .message .now) (t .last .1 .1 .1 .0) (t .result) (t .ensures .0)
 
 same-length : tie.Need-same-length
@@ -56,22 +61,23 @@ same-length-2 c = search needs
 
 returns-2 : tie.Need-returns-2
 returns-2 c =
-    let s = c .before .before .before .before .before .before .before .before .before .before .before .before in
+    let s = c .before .before .before .before .before .before .before .before .before .before .before .before .before .before .before in
     let a = s .before .before .before .before .before .before .args in
-    let t = c .before .before .before .before .before .before .before .before .before .settle in
+    let t = c .before .before .before .before .before .before .before .before .before .before .before .before .settle in
+    let g = c .before .before .before .before .grade-in in
     record-filled (a .refusal) (a .shape) (a .word .now) (a .marks .now) (a .message .now) (a .code) (t .last .1 .1 .1 .0) (a .work .now)
-    (t .last .1 .1 .1 .1 .0) (sym (s .before .decode-refusal .ensures) ∙ s .if1 .left)
+    (g .last .1 .1 .0) (sym (s .before .decode-refusal .ensures) ∙ s .if1 .left)
     (record {
       refusal = refl;
       numbers = record {
         code = refl;
-        lost = c .before .before .before .before .count-lost .ensures;
-        guarantee-is = c .before .before .before .guarantee-of .ensures;
-        grade-is = c .before .before .grade-of .ensures;
+        lost = c .before .before .before .before .before .before .before .count-lost .ensures;
+        guarantee-is = c .before .before .before .before .before .before .guarantee-of .ensures;
+        grade-is = g .ensures .0;
         first = c .before .first-group .ensures;
       };
       verdict = rw (c .outcome-of .ensures) (t .ensures .0);
-      work = t .ensures .1;
+      work = g .ensures .1 ∙ ap (cleared (a .shape)) (t .ensures .1) ∙ cleared-twice (a .shape) (a .work .now);
     })
 
 pub record-with-spec : {M : Type 1} → statement M
@@ -84,7 +90,7 @@ record-with-spec =
     settle-requires
     count-lost-requires
     guarantee-of-requires
-    grade-of-requires
+    grade-in-requires
     first-group-requires
     outcome-of-requires
     same-length
