@@ -25,7 +25,7 @@ use Rattle.words.specs.Word.{word-bytes, bytes, word-at, code-word, kept-word, 
 use Rattle.sheet.specs.Sheet.{sheet-words, middle-word, code-in, symbols-in, marks-in}
 use Rattle.worked.specs.Case.{N, ones, word, W, wired-message, wired-word, B, byte-message, byte-word, Cases-hold}
 use Rattle.worked.proofs.Quick.{raised, place-point, inverted, weighed, weights-by, repaired-by, points-from, drawn, drawn-is}
-use Rattle.worked.proofs.Deciding.{covered, first-differs, passed-to, within, past, foreign, undecided}
+use Rattle.worked.proofs.Deciding.{covered, first-differs, passed-to, within, past, foreign, undecided, graded-three, graded-four}
 use Rattle.worked.proofs.ShortCases.{_&_, short-cases-hold}
 
 abbrev SN : Shape
@@ -100,10 +100,12 @@ cases-hold =
     & (refl, within SN family ones word refl ones-encoded _ _ refl (lit≤ tt))
     & (refl, refl)
     & (refl, past SN family ones word refl ones-encoded _ _ refl refl (lit≤ tt))
-    & (refl, refl)
+    & (refl, graded-three SN family (0 ∷ 0 ∷ 1 ∷ 0 ∷ 0 ∷ 1 ∷ 1 ∷ 1 ∷ 1 ∷ []) refl refl refl (lit≤ tt))
     & (refl, undecided SN family ones word refl ones-encoded (0 ∷ 8 ∷ 2 ∷ 7 ∷ []) _ refl rival-encoded (first-differs _ _ (λ z. omega arith)) _ _ refl refl)
+    & (refl, graded-four SN family ones word refl ones-encoded (0 ∷ 8 ∷ 2 ∷ 7 ∷ []) _ refl rival-encoded (first-differs _ _ (λ z. omega arith)) (0 ∷ 0 ∷ 0 ∷ 0 ∷ 1 ∷ 1 ∷ 1 ∷ 1 ∷ 1 ∷ []) refl)
     & (refl, foreign SN family ones word refl ones-encoded _ _ (0 ∷ 0 ∷ 0 ∷ 0 ∷ 0 ∷ 0 ∷ 0 ∷ 0 ∷ 1 ∷ []) 8 refl refl (lit≤ tt) (lit< tt) refl (λ z. omega arith))
     & (refl, undecided SN family ones word refl ones-encoded (0 ∷ 8 ∷ 2 ∷ 7 ∷ []) _ refl rival-encoded (first-differs _ _ (λ z. omega arith)) _ _ refl refl)
+    & (refl, graded-four SN family ones word refl ones-encoded (0 ∷ 8 ∷ 2 ∷ 7 ∷ []) _ refl rival-encoded (first-differs _ _ (λ z. omega arith)) (1 ∷ 1 ∷ 1 ∷ 1 ∷ 1 ∷ 1 ∷ 1 ∷ 1 ∷ 1 ∷ []) refl)
     & refl
     & refl
     & refl
@@ -133,11 +135,15 @@ cases-hold =
     & (refl, passed-to SB byte-family byte-message byte-word refl byte-encoded (255 ∷ 108 ∷ 97 ∷ 255 ∷ 255 ∷ 1 ∷ 53 ∷ 176 ∷ 125 ∷ []) (1 ∷ 0 ∷ 0 ∷ 1 ∷ 1 ∷ 0 ∷ 0 ∷ 0 ∷ 0 ∷ []) (255 ∷ 108 ∷ 97 ∷ 255 ∷ 244 ∷ 1 ∷ 53 ∷ 176 ∷ 125 ∷ []) refl refl refl, refl, refl)
     & (refl, within SW wired-family wired-message wired-word refl wired-encoded _ _ refl (lit≤ tt))
     & (refl, past SW wired-family wired-message wired-word refl wired-encoded _ _ refl refl (lit≤ tt))
+    & (refl, graded-three SW wired-family (0 ∷ 0 ∷ 1 ∷ 0 ∷ 0 ∷ 1 ∷ 1 ∷ 1 ∷ 1 ∷ []) refl refl refl (lit≤ tt))
     & (refl, undecided SW wired-family wired-message wired-word refl wired-encoded (11 ∷ 1 ∷ 6 ∷ 5 ∷ []) _ refl wired-rival (first-differs _ _ (λ z. omega arith)) _ _ refl refl)
+    & (refl, graded-four SW wired-family wired-message wired-word refl wired-encoded (11 ∷ 1 ∷ 6 ∷ 5 ∷ []) _ refl wired-rival (first-differs _ _ (λ z. omega arith)) (0 ∷ 1 ∷ 1 ∷ 0 ∷ 1 ∷ 1 ∷ 0 ∷ 1 ∷ 0 ∷ []) refl)
     & (refl, foreign SW wired-family wired-message wired-word refl wired-encoded _ _ (0 ∷ 0 ∷ 0 ∷ 0 ∷ 0 ∷ 0 ∷ 0 ∷ 0 ∷ 1 ∷ []) 8 refl refl (lit≤ tt) (lit< tt) refl (λ z. omega arith))
     & (refl, within SB byte-family byte-message byte-word refl byte-encoded _ _ refl (lit≤ tt))
     & (refl, past SB byte-family byte-message byte-word refl byte-encoded _ _ refl refl (lit≤ tt))
+    & (refl, graded-three SB byte-family (1 ∷ 0 ∷ 0 ∷ 1 ∷ 0 ∷ 0 ∷ 0 ∷ 1 ∷ 0 ∷ []) refl refl refl (lit≤ tt))
     & (refl, undecided SB byte-family byte-message byte-word refl byte-encoded (59 ∷ 2 ∷ 75 ∷ 4 ∷ 254 ∷ []) _ refl byte-rival (first-differs _ _ (λ z. omega arith)) _ _ refl refl)
+    & (refl, graded-four SB byte-family byte-message byte-word refl byte-encoded (59 ∷ 2 ∷ 75 ∷ 4 ∷ 254 ∷ []) _ refl byte-rival (first-differs _ _ (λ z. omega arith)) (1 ∷ 0 ∷ 0 ∷ 1 ∷ 0 ∷ 0 ∷ 1 ∷ 0 ∷ 0 ∷ []) refl)
     & (refl, foreign SB byte-family byte-message byte-word refl byte-encoded _ _ (0 ∷ 0 ∷ 0 ∷ 0 ∷ 0 ∷ 0 ∷ 0 ∷ 0 ∷ 1 ∷ []) 8 refl refl (lit≤ tt) (lit< tt) refl (λ z. omega arith))
     & (refl, refl)
     & (refl, refl)

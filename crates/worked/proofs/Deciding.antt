@@ -5,12 +5,14 @@
 --   past         so too where the local pass brings the losses down to as many
 --   foreign      no message fits, where another kept symbol than the codeword's is left
 --   undecided    two messages fit, where another codeword has the kept symbols too
+--   graded-three    grade 3: past the guarantee, where the local pass brings the losses down to as many
+--   graded-four     grade 4: another codeword has the kept symbols too
 use mathlib.Core.Path.{_≡_, refl, sym, ap, _∙_}
 use mathlib.Core.Logic.{_≢_}
 use mathlib.Core.Bool.{Bool, true, false, cond, not, _&&_, _||_}
 use mathlib.Core.List.{List}
 use Prim.Native.Nat.{ℕ, _≤_, _<_}
-use lib.Dec.{T, eqb, eqb→eq}
+use lib.Dec.{T, leb, eqb, eqb→eq}
 use lib.ListN.{length}
 use borrow.Author.Tests.{eq-eqb}
 use Rattle.algebra.specs.Sequence.{at, tabulate, every}
@@ -18,10 +20,10 @@ use Rattle.algebra.proofs.Booleans.{so, yes-true}
 use Rattle.algebra.proofs.Every.{every-at, every-intro}
 use Rattle.algebra.proofs.Tabulate.{tabulate-same}
 use Rattle.code.specs.declared.Shape.{Shape}
-use Rattle.code.specs.Shape.{group}
+use Rattle.code.specs.Shape.{groups, group}
 use Rattle.code.specs.Codeword.{encoded, guarantee}
 use Rattle.code.specs.Decoding.{lost, agrees, fits}
-use Rattle.code.specs.Erasure.{lost-number}
+use Rattle.code.specs.Erasure.{lost-number, stands, grade}
 use Rattle.code.specs.Pass.{mends, mend, passed, marks-after}
 use Rattle.code.specs.Laws.{Family}
 use Rattle.code.specs.Verdict.{Verdict, one, none, more}
@@ -30,6 +32,9 @@ use Rattle.code.proofs.Codewords.{message-is}
 use Rattle.code.proofs.Passing.{mend-restores, mends-stands}
 use Rattle.code.proofs.Decoding.{decodes-back, fits-message, fits-agrees, fits-intro, agrees-kept}
 use Rattle.code.proofs.Keeping.{group-agrees, before-and-after}
+use Rattle.code.proofs.Deciding.{own-fits, two-fit}
+use Rattle.code.proofs.Repaired.{decided-within}
+use Rattle.code.proofs.Graded.{four-of}
 
 -- the received word has the codeword's symbol wherever ns does not say lost, and ms says lost nowhere else
 unfoldable pub covered : (n : ℕ) (ws vs ms ns : List ℕ) → Bool
@@ -101,3 +106,14 @@ module _ (s : Shape) (F : Family s) (xs ws : List ℕ) (m : Message s xs) (e : e
       → (buffer : List ℕ) → Verdict s vs ms buffer buffer 10
   undecided rs zs n d u vs ms a b buffer =
       more xs rs (fits-intro s vs ms xs m (agreed vs ms a)) (fits-intro s vs ms rs n (ap (λ w. agrees s w vs ms) d ∙ b)) u refl
+
+  pub graded-four : (rs zs : List ℕ) → Message s rs → encoded s rs ≡ zs → xs ≢ rs → (ms : List ℕ) → agrees s ws zs ms ≡ true → grade s ms ≡ 4
+  graded-four rs zs n d u ms a =
+      four-of s ms F
+      (two-fit s ms zs xs rs (fits-intro s zs ms xs m (agreed zs ms a)) (ap (λ w. fits s w ms rs) (sym d) ∙ own-fits s ms rs (message-is s rs n)) u)
+
+module _ (s : Shape) (F : Family s) where
+  pub graded-three : (ms : List ℕ) → eqb (lost-number s ms) 0 ≡ false → every (stands s ms) (groups s) ≡ false → leb (lost-number s ms) (guarantee s) ≡ false
+      → lost-number s (marks-after s ms) ≤ guarantee s → grade s ms ≡ 3
+  unfolding grade
+  graded-three ms a b c l = rw (a, b, c, decided-within s F ms l) refl

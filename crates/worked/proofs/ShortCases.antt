@@ -27,7 +27,7 @@ use Rattle.words.specs.Word.{word-bytes, bytes, word-at, code-word, kept-word, 
 use Rattle.sheet.specs.Sheet.{sheet-words, middle-word, code-in, symbols-in, marks-in}
 use Rattle.worked.specs.Case.{Holds, byte-message, S, short-message, short-word, T, short-bytes, U, L, short-cases}
 use Rattle.worked.proofs.Quick.{raised, place-point, points-from, inverted, weighed, weights-by, repaired-by, vanish-by, sum-by, symbol-by, drawn-by, drawn-short}
-use Rattle.worked.proofs.Deciding.{covered, first-differs, passed-to, within, past, foreign, undecided}
+use Rattle.worked.proofs.Deciding.{covered, first-differs, passed-to, within, past, foreign, undecided, graded-three, graded-four}
 
 abbrev SS : Shape
 SS = single S
@@ -213,7 +213,7 @@ short-cases-hold =
     & (refl, refl)
     & (refl, refl)
     & (refl, refl)
-    & (refl, refl)
+    & (refl, graded-three SS s-family (0 ∷ 0 ∷ 1 ∷ 0 ∷ 0 ∷ 1 ∷ 0 ∷ 0 ∷ 1 ∷ 1 ∷ 1 ∷ []) refl refl refl (lit≤ tt))
     & (refl, refl)
     & (refl, refl)
     & (refl, refl)
@@ -229,12 +229,16 @@ short-cases-hold =
     & (refl, within SS s-family short-message short-word refl s-encoded _ _ refl (lit≤ tt))
     & (refl, past SS s-family short-message short-word refl s-encoded _ _ refl refl (lit≤ tt))
     & (refl, undecided SS s-family short-message short-word refl s-encoded (10 ∷ 8 ∷ 11 ∷ 5 ∷ 5 ∷ []) _ refl s-rival (first-differs _ _ (λ z. omega arith)) _ _ refl refl)
+    & (refl, graded-four SS s-family short-message short-word refl s-encoded (10 ∷ 8 ∷ 11 ∷ 5 ∷ 5 ∷ []) _ refl s-rival (first-differs _ _ (λ z. omega arith)) (1 ∷ 1 ∷ 1 ∷ 1 ∷ 1 ∷ 0 ∷ 0 ∷ 0 ∷ 0 ∷ 0 ∷ 0 ∷ []) refl)
     & (refl, undecided SS s-family short-message short-word refl s-encoded (0 ∷ 4 ∷ 7 ∷ 9 ∷ 6 ∷ []) _ refl s-other (first-differs _ _ (λ z. omega arith)) _ _ refl refl)
+    & (refl, graded-four SS s-family short-message short-word refl s-encoded (0 ∷ 4 ∷ 7 ∷ 9 ∷ 6 ∷ []) _ refl s-other (first-differs _ _ (λ z. omega arith)) (1 ∷ 1 ∷ 1 ∷ 0 ∷ 0 ∷ 0 ∷ 0 ∷ 0 ∷ 0 ∷ 1 ∷ 1 ∷ []) refl)
     & (refl, undecided SS s-family short-message short-word refl s-encoded (0 ∷ 4 ∷ 7 ∷ 9 ∷ 6 ∷ []) _ refl s-other (first-differs _ _ (λ z. omega arith)) _ _ refl refl)
     & (refl, foreign SS s-family short-message short-word refl s-encoded _ _ (0 ∷ 0 ∷ 0 ∷ 0 ∷ 0 ∷ 0 ∷ 0 ∷ 0 ∷ 0 ∷ 0 ∷ 1 ∷ []) 10 refl refl (lit≤ tt) (lit< tt) refl (λ z. omega arith))
     & (refl, within ST t-family byte-message short-bytes refl t-encoded _ _ refl (lit≤ tt))
     & (refl, past ST t-family byte-message short-bytes refl t-encoded _ _ refl refl (lit≤ tt))
+    & (refl, graded-three ST t-family (1 ∷ 0 ∷ 0 ∷ 0 ∷ 0 ∷ 1 ∷ 1 ∷ 0 ∷ []) refl refl refl (lit≤ tt))
     & (refl, undecided ST t-family byte-message short-bytes refl t-encoded (68 ∷ 140 ∷ 238 ∷ 5 ∷ 255 ∷ []) _ refl t-rival (first-differs _ _ (λ z. omega arith)) _ _ refl refl)
+    & (refl, graded-four ST t-family byte-message short-bytes refl t-encoded (68 ∷ 140 ∷ 238 ∷ 5 ∷ 255 ∷ []) _ refl t-rival (first-differs _ _ (λ z. omega arith)) (0 ∷ 0 ∷ 0 ∷ 0 ∷ 0 ∷ 1 ∷ 1 ∷ 1 ∷ []) refl)
     & (refl, undecided ST t-family byte-message short-bytes refl t-encoded (69 ∷ 77 ∷ 2 ∷ 4 ∷ 255 ∷ []) _ refl t-other (first-differs _ _ (λ z. omega arith)) _ _ refl refl)
     & (refl, foreign ST t-family byte-message short-bytes refl t-encoded _ _ (0 ∷ 0 ∷ 0 ∷ 0 ∷ 0 ∷ 0 ∷ 0 ∷ 1 ∷ []) 7 refl refl (lit≤ tt) (lit< tt) refl (λ z. omega arith))
     & (refl, refl, refl, refl, refl)
