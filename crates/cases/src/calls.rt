@@ -104,8 +104,7 @@ fn work_room() -> [u8; 61455] {
 }
 
 // The line of a decode, with the grade of its marks.
-fn put_decoded(code: Code, marks: &[u8], refusal: u32, message: &[u8]) {
-    let grade = grading::grade(code, marks);
+fn put_decoded(code: Code, grade: Answer, refusal: u32, message: &[u8]) {
     head(b"decode ", code);
     show::put(refusal);
     show::put(grade.refusal);
@@ -113,11 +112,12 @@ fn put_decoded(code: Code, marks: &[u8], refusal: u32, message: &[u8]) {
     show::put_line(message);
 }
 
-// Decodes the kept symbols of a word with so many bytes of work.
+// Decodes the kept symbols of a word, and grades the marks, with so many bytes of work.
 pub fn decodes(code: Code, word: &[u8], marks: &[u8], used: usize) {
     let mut room = [7u8; 240];
     let mut work = work_room();
     let message = front(&mut room, code.k as usize);
     let refusal = decode::decode(code, word, marks, message, front(&mut work, used));
-    put_decoded(code, marks, refusal, message);
+    let grade = grading::grade(code, marks, front(&mut work, used));
+    put_decoded(code, grade, refusal, message);
 }

@@ -214,8 +214,9 @@ pub extern "C" fn latsefidy_grade(
     k: u32,
     wiring: u32,
     marks: &[u8],
+    work: &mut [u8],
 ) -> u64
-    ensures { λ x. ⌜ Grade-says (code-refusal (code-of field r n k wiring)) (single (code-of field r n k wiring)) (now (marks .entry)) (unpacked x) ⌝ }
+    ensures { λ x. ⌜ Grade-says (code-refusal (code-of field r n k wiring)) (single (code-of field r n k wiring)) (now (marks .entry)) (unpacked x) (now (work .entry)) (now (work .exit)) ⌝ }
 {
     packed(grading::grade(
         Code {
@@ -226,6 +227,7 @@ pub extern "C" fn latsefidy_grade(
             wiring,
         },
         marks,
+        work,
     ))
 }
 

@@ -22,7 +22,7 @@ fn run(record: &[u8], call: Call) -> bool {
     let number = call.number;
     match number {
         2 => few::run_weights(record, call),
-        3 | 5 | 8 => few::run_one(record, call),
+        3 | 5 => few::run_one(record, call),
         6 => few::run_pass(record, call),
         7 | 11 => many::run_word(record, call),
         10 => many::run_sheet(record),
