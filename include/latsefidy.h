@@ -64,9 +64,9 @@ extern "C" {
 #endif
 
 #define LATSEFIDY_VERSION_MAJOR 0
-#define LATSEFIDY_VERSION_MINOR 4
+#define LATSEFIDY_VERSION_MINOR 5
 #define LATSEFIDY_VERSION_PATCH 0
-#define LATSEFIDY_VERSION "0.4.0"
+#define LATSEFIDY_VERSION "0.5.0"
 
 #define LATSEFIDY_WEIGHTS 16       /* length of a weights buffer */
 #define LATSEFIDY_STRIP_MOST 4096  /* most symbols of one strip */
@@ -231,24 +231,33 @@ uint32_t latsefidy_decode(uint32_t field, uint32_t r, uint32_t n, uint32_t k, ui
                           uint8_t *message, size_t message_len,
                           uint8_t *work, size_t work_len);
 
-/* Grades the losses: 0 nothing is lost; else 1 no group has more than one loss; else 2 the number
- * lost is at most the guarantee; else 3.
- *   marks     n marks
+/* Grades the losses, by the code and the marks alone:
+ *   0  nothing is lost
+ *   1  else, no group has more than one loss: the local pass repairs all
+ *   2  else, the number lost is at most the guarantee
+ *   3  else, past the guarantee, but the kept slots still decide: no two codewords agree on them
+ *   4  some two different codewords agree on the kept slots
+ * Up to grade 3 the codeword is the only one with its kept symbols, and decode gives its message
+ * back; under grade 4 decode answers 10 for it. Kept symbols of no codeword are 9 under any grade.
+ *   marks     n marks, unchanged
+ *   work      at least n * (k + 1) bytes; 61,455 are enough for every code. Where the refusal is 0
+ *             the first n * (k + 1) are 0 at the end, whatever the grade; the rest is unchanged
  * Returns the refusal (high) and the grade (low). Asked in the order 1 2 3 4 17 5 8:
  *   1 to 4  the code, and 17 its wiring
- *   5       marks_len is not n
+ *   5       marks_len is not n, or work_len is below n * (k + 1)
  *   8       a mark is neither 0 nor 1
  */
 uint64_t latsefidy_grade(uint32_t field, uint32_t r, uint32_t n, uint32_t k, uint32_t wiring,
-                         const uint8_t *marks, size_t marks_len);
+                         const uint8_t *marks, size_t marks_len,
+                         uint8_t *work, size_t work_len);
 
 /* Decodes and fills the stripe's record.
  *   word, marks, message, work   as in decode; message is unchanged where the outcome is not 0, and
  *             where the answer is 0 the first n * (k + 1) bytes of work are 0 at the end
  *   record    10 numbers, written where the answer is 0:
- *             field, r, n, k, wiring, number lost, guarantee, grade, first group with two or more
- *             losses (255 if none), outcome: 0 decided, 9 foreign (no codeword agrees),
- *             10 undecided (more than one does)
+ *             field, r, n, k, wiring, number lost, guarantee, grade (0 to 4, as above), first group
+ *             with two or more losses (255 if none), outcome: 0 decided, 9 foreign (no codeword
+ *             agrees), 10 undecided (more than one does)
  * Returns 0 or the refusal, asked in the order 1 2 3 4 17 5 8 6:
  *   1 to 4  the code, and 17 its wiring
  *   5       a length is not as in decode, or record_len is not 10

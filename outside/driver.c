@@ -19,7 +19,7 @@ enum { CALLS = 12, BUFFERS = 5, LONGEST = 65600, GUARD = 64, GUARD_BYTE = 0xA5, 
 static const char *const NAMES[CALLS + 1] = {
     "",       "encode", "weights", "repair",     "rebuild",     "view",  "local_pass",
     "decode", "grade",  "record",  "read_sheet", "write_sheet", "report"};
-static const uint32_t COUNTS[CALLS + 1] = {0, 2, 1, 1, 2, 1, 2, 4, 1, 5, 4, 3, 2};
+static const uint32_t COUNTS[CALLS + 1] = {0, 2, 1, 1, 2, 1, 2, 4, 2, 5, 4, 3, 2};
 
 /* A buffer: what it holds before and after, and the memory that it is lent in. */
 struct buffer {
@@ -153,7 +153,7 @@ static uint64_t answer(void) {
     case 5: return latsefidy_view(CODE, SLOT, BYTES(0));
     case 6: return latsefidy_local_pass(CODE, BYTES(0), BYTES(1));
     case 7: return refusal_only(latsefidy_decode(CODE, BYTES(0), BYTES(1), BYTES(2), BYTES(3)));
-    case 8: return latsefidy_grade(CODE, BYTES(0));
+    case 8: return latsefidy_grade(CODE, BYTES(0), BYTES(1));
     case 9: return refusal_only(latsefidy_record(CODE, BYTES(0), BYTES(1), BYTES(2), BYTES(3), NUMBERS(4)));
     case 10: return refusal_only(latsefidy_read_sheet(BYTES(0), BYTES(1), BYTES(2), NUMBERS(3)));
     case 11: return refusal_only(latsefidy_write_sheet(CODE, BYTES(0), BYTES(1), BYTES(2)));
