@@ -160,20 +160,35 @@ impl Code {
         })
     }
 
-    /// The grade of the losses: 0 nothing is lost; else 1 no group has more than one loss; else 2
-    /// the number lost is at most the guarantee; else 3.
+    /// The grade of the losses, by the code and the marks alone:
+    ///
+    /// - 0: nothing is lost;
+    /// - 1: else, no group has more than one loss, and the [local pass](Code::local_pass) repairs all;
+    /// - 2: else, the number lost is at most the [guarantee](Code::guarantee);
+    /// - 3: else, past the guarantee, but the kept slots still decide: no two codewords agree on them;
+    /// - 4: some two different codewords agree on the kept slots.
+    ///
+    /// Of a codeword with these losses [`decode`](Code::decode) gives the message back up to grade 3,
+    /// and is refused, 10, under grade 4. Work has at least [`work_len`](Code::work_len) bytes; that
+    /// many of them are 0 at the end, whatever the grade, and a refusal leaves them.
     ///
     /// ```
-    /// let code = latsefidy::Code::new(0, 2, 9, 4)?;
-    /// assert_eq!(code.grade(&[0, 0, 0, 0, 0, 0, 0, 0, 0])?, 0);
-    /// assert_eq!(code.grade(&[1, 0, 0, 1, 0, 0, 1, 0, 0])?, 1);
-    /// assert_eq!(code.grade(&[1, 1, 1, 1, 0, 0, 0, 0, 0])?, 2);
-    /// assert_eq!(code.grade(&[0, 0, 1, 0, 0, 1, 1, 1, 1])?, 3);
-    /// # Ok::<(), latsefidy::Refusal>(())
+    /// use latsefidy::{Code, Refusal};
+    ///
+    /// let code = Code::new(0, 2, 9, 4)?;
+    /// let mut work = vec![0; code.work_len()];
+    /// assert_eq!(code.grade(&[0, 0, 0, 0, 0, 0, 0, 0, 0], &mut work)?, 0);
+    /// assert_eq!(code.grade(&[1, 0, 0, 1, 0, 0, 1, 0, 0], &mut work)?, 1);
+    /// assert_eq!(code.grade(&[1, 1, 1, 1, 0, 0, 0, 0, 0], &mut work)?, 2);
+    /// assert_eq!(code.grade(&[0, 0, 1, 0, 0, 1, 1, 1, 1], &mut work)?, 3);
+    /// assert_eq!(code.grade(&[0, 0, 0, 0, 1, 1, 1, 1, 1], &mut work)?, 4);
+    /// assert_eq!(code.grade(&[0; 9], &mut work[1..]), Err(Refusal::Length));
+    /// # Ok::<(), Refusal>(())
     /// ```
-    pub fn grade(self, marks: &[u8]) -> Result<u32, Refusal> {
+    pub fn grade(self, marks: &[u8], work: &mut [u8]) -> Result<u32, Refusal> {
         let Code { field, r, n, k, wiring } = self;
-        value(unsafe { raw::latsefidy_grade(field, r, n, k, wiring, marks.as_ptr(), marks.len()) })
+        let (at, len) = (work.as_mut_ptr(), work.len());
+        value(unsafe { raw::latsefidy_grade(field, r, n, k, wiring, marks.as_ptr(), marks.len(), at, len) })
     }
 
     /// Decodes, as [`decode`](Code::decode) does, and answers the stripe's record. 9 and 10 are

@@ -33,6 +33,7 @@ extern "C" {
     ) -> u32;
     pub fn latsefidy_grade(
         field: u32, r: u32, n: u32, k: u32, wiring: u32, marks: *const u8, marks_len: usize,
+        work: *mut u8, work_len: usize,
     ) -> u64;
     pub fn latsefidy_record(
         field: u32, r: u32, n: u32, k: u32, wiring: u32, word: *const u8, word_len: usize,

@@ -24,7 +24,8 @@ pub struct Record {
     /// The guarantee: up to that many lost slots are decoded, whichever they are.
     pub sure: u32,
     /// 0 nothing is lost; else 1 no group has more than one loss; else 2 the number lost is at most
-    /// the guarantee; else 3.
+    /// the guarantee; else 3 the kept slots still decide; 4 some two different codewords agree on
+    /// them. It goes by the code and the marks: a record of grade 4 is undecided or foreign.
     pub grade: u32,
     /// The first group with two or more losses, if there is one.
     pub first: Option<u32>,

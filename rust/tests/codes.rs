@@ -188,10 +188,35 @@ fn losses_come_back() {
         for last in code.groups().map(|mut group| group.next_back().unwrap() as usize) {
             (lost[last], marks[last]) = (255, 1);
         }
-        assert_eq!(code.grade(&marks), Ok(1));
+        assert_eq!(code.grade(&marks, &mut vec![99; code.work_len()]), Ok(1));
         assert_eq!(code.local_pass(&mut lost, &mut marks), Ok(code.groups().len() as u32));
         assert_eq!((lost, marks), (word, vec![0; code.n() as usize]));
     }
+}
+
+/// Grade 4 is where decode cannot tell, and up to grade 3 the message comes back: slots side by side, and every other one.
+#[test]
+fn grades_say_what_decodes() {
+    let large = [Code::new(1, 4, 60, 40).unwrap(), Code::with_wiring(1, 4, 60, 40, 1).unwrap()];
+    let mut seen = [0; 5];
+    for code in codes(0).chain(whole(0).map(wired)).chain(large) {
+        let (n, sure) = (code.n() as usize, code.guarantee() as usize);
+        let message = vec![1; code.k() as usize];
+        let (mut word, mut work) = (vec![0; n], vec![0; code.work_len()]);
+        code.encode(&message, &mut word).unwrap();
+        for (lost, step) in (0..=n).flat_map(|lost| [(lost, 1), (lost, 2)]) {
+            let (mut marks, mut back) = (vec![0; n], vec![0; message.len()]);
+            (0..n).step_by(step).take(lost).for_each(|slot| marks[slot] = 1);
+            let gone = marks.iter().filter(|&&mark| mark == 1).count();
+            let grade = code.grade(&marks, &mut work).unwrap();
+            let expected = if grade == 4 { Err(Refusal::Undecided) } else { Ok(()) };
+            assert_eq!(code.decode(&word, &marks, &mut back, &mut work), expected, "{code:?} {marks:?}");
+            assert!(grade == 4 || back == message, "{code:?} {marks:?}");
+            assert!(if gone <= sure { grade <= 2 } else { [1, 3, 4].contains(&grade) }, "{code:?} {marks:?}");
+            seen[grade as usize] += 1;
+        }
+    }
+    assert!(seen.iter().all(|&count| count > 0), "{seen:?}");
 }
 
 /// Member i of group g, by the first k unit messages: its symbols are the same under both wirings.

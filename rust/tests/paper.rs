@@ -55,6 +55,14 @@ fn decoded(word: &[u8], lost: &[usize]) -> Result<Vec<u8>, Refusal> {
     answer.map(|()| message)
 }
 
+/// The grade; the front of work is clear then, and the rest as it was.
+fn graded(code: Code, marks: &[u8]) -> u32 {
+    let mut work = vec![99; code.work_len() + 3];
+    let grade = code.grade(marks, &mut work).unwrap();
+    assert!(work[..code.work_len()].iter().all(|&b| b == 0) && work[code.work_len()..] == [99; 3]);
+    grade
+}
+
 #[test]
 fn encodes() {
     assert_eq!(encoded(classroom(), &[1, 1, 1, 1]).unwrap(), WORD);
@@ -89,21 +97,48 @@ fn decodes() {
 
 #[test]
 fn grades_and_records() {
-    assert_eq!(classroom().grade(&marked(&[])), Ok(0));
-    assert_eq!(classroom().grade(&marked(&[0, 3, 6])), Ok(1));
-    assert_eq!(classroom().grade(&marked(&[0, 1, 2, 3])), Ok(2));
-    assert_eq!(classroom().grade(&marked(&[2, 5, 6, 7, 8])), Ok(3));
+    assert_eq!(graded(classroom(), &marked(&[])), 0);
+    assert_eq!(graded(classroom(), &marked(&[0, 3, 6])), 1);
+    assert_eq!(graded(classroom(), &marked(&[0, 1, 2, 3])), 2);
+    assert_eq!(graded(classroom(), &marked(&[2, 5, 6, 7, 8])), 3);
+    assert_eq!(graded(classroom(), &marked(&[4, 5, 6, 7, 8])), 4);
+    assert_eq!(graded(classroom(), &[1; 9]), 4);
     let (mut message, mut work) = ([0; 4], vec![0; classroom().work_len()]);
     let record = classroom().record(&WORD, &marked(&[2, 5, 6, 7, 8]), &mut message, &mut work).unwrap();
     assert_eq!((record.code, record.lost, record.sure, record.grade, record.first), (classroom(), 5, 4, 3, Some(2)));
     assert_eq!((record.outcome, message), (Outcome::Decided, [1; 4]));
     let record = classroom().record(&WORD, &[1; 9], &mut message, &mut work).unwrap();
-    assert_eq!((record.outcome, record.first), (Outcome::Undecided, Some(0)));
+    assert_eq!((record.outcome, record.grade, record.first), (Outcome::Undecided, 4, Some(0)));
+    // The grade is of the marks: with group 0 kept a foreign word is foreign under grade 4 too.
+    let other = [5, 8, 7, 1, 11, 2, 0, 0, 0];
+    let record = classroom().record(&other, &marked(&[4, 5, 6, 7, 8]), &mut message, &mut work).unwrap();
+    assert_eq!((record.outcome, record.grade, record.first), (Outcome::Foreign, 4, Some(1)));
     let foreign = [4, 8, 7, 1, 11, 2, 0, 0, 1];
     let record = classroom().record(&foreign, &[0; 9], &mut message, &mut work).unwrap();
     assert_eq!((record.outcome, record.first, message), (Outcome::Foreign, None, [1; 4]));
     let record = classroom().record(&WORD, &marked(&[0, 3, 6]), &mut message, &mut work).unwrap();
     assert_eq!((record.lost, record.grade, record.first), (3, 1, None));
+}
+
+#[test]
+fn grade_borrows_work() {
+    let marks = marked(&[2, 5, 6, 7, 8]);
+    let mut bad = marks;
+    bad[8] = 2;
+    // Marks of n and work of n * (k + 1) at least are asked before the marks themselves, and a refusal leaves work.
+    let refused = [
+        (&marks[..], 44, Refusal::Length),
+        (&marks[..8], 45, Refusal::Length),
+        (&bad[..], 44, Refusal::Length),
+        (&bad[..], 0, Refusal::Length),
+        (&bad[..], 45, Refusal::Mark),
+        (&bad[..], 50, Refusal::Mark),
+    ];
+    for (marks, room, refusal) in refused {
+        let mut work = vec![99; room];
+        assert_eq!(classroom().grade(marks, &mut work), Err(refusal));
+        assert_eq!(work, vec![99; room]);
+    }
 }
 
 #[test]
@@ -142,7 +177,7 @@ fn decodes_and_grades_wired() {
     // A shelf, slots 3 to 5, has one of each group: the local pass repairs all of it.
     let (mut word, mut marks) = (WIRED, marked(&[3, 4, 5]));
     word[3..6].fill(99);
-    assert_eq!(wired().grade(&marks), Ok(1));
+    assert_eq!(graded(wired(), &marks), 1);
     assert_eq!(wired().local_pass(&mut word, &mut marks), Ok(3));
     assert_eq!((word, marks), (WIRED, [0; 9]));
     // Group 1 is slots 1, 4 and 7: two of it are lost and stay so, slot 0 is mended.
@@ -154,7 +189,9 @@ fn decodes_and_grades_wired() {
     assert_eq!((record.code, record.lost, record.sure, record.grade, record.first), (wired(), 4, 4, 2, Some(0)));
     assert_eq!((record.outcome, message), (Outcome::Decided, [1; 4]));
     let answer = wired().decode(&WIRED, &marked(&[1, 4, 7, 2, 5]), &mut message, &mut work);
-    assert_eq!((answer, wired().grade(&marked(&[1, 4, 7, 2, 5]))), (Err(Refusal::Undecided), Ok(3)));
+    assert_eq!((answer, graded(wired(), &marked(&[1, 4, 7, 2, 5]))), (Err(Refusal::Undecided), 4));
+    let answer = wired().decode(&WIRED, &marked(&[4, 5, 6, 7, 8]), &mut message, &mut work);
+    assert_eq!((answer, graded(wired(), &marked(&[4, 5, 6, 7, 8]))), (Ok(()), 3));
     let all = wired().decode(&WIRED, &[1; 9], &mut message, &mut work);
     assert_eq!(all, Err(Refusal::Undecided));
     // The codeword of wiring 0 is foreign to wiring 1.
@@ -234,7 +271,7 @@ fn decodes_and_grades_short() {
         let decided = short().decode(&word, &marks, &mut message, &mut work) == Ok(());
         assert_eq!(record.outcome, if decided { Outcome::Decided } else { Outcome::Undecided });
         assert!(!decided || message == [1, 2, 3, 4, 5]);
-        assert_eq!(short().grade(&marks), Ok(record.grade));
+        assert_eq!(graded(short(), &marks), record.grade);
         (decided, record.grade, record.first)
     };
     assert_eq!(decoded(&[]), (true, 0, None));
@@ -242,8 +279,13 @@ fn decodes_and_grades_short() {
     assert_eq!(decoded(&[9, 10]), (true, 2, Some(3)));
     assert_eq!(decoded(&[0, 1, 2, 9]), (true, 2, Some(0)));
     assert_eq!(decoded(&[2, 5, 8, 9, 10]), (true, 3, Some(3)));
-    assert_eq!(decoded(&[0, 1, 2, 9, 10]), (false, 3, Some(0)));
-    assert_eq!(decoded(&[0, 1, 2, 3, 4]), (false, 3, Some(0)));
+    assert_eq!(decoded(&[0, 1, 2, 9, 10]), (false, 4, Some(0)));
+    assert_eq!(decoded(&[0, 1, 2, 3, 4]), (false, 4, Some(0)));
+    let bytes = code(1, 4, 8, 5);
+    assert_eq!(graded(bytes, &[0, 0, 0, 0, 0, 1, 1, 0]), 2);
+    assert_eq!(graded(bytes, &[1, 0, 0, 0, 0, 1, 1, 0]), 3);
+    assert_eq!(graded(bytes, &[0, 0, 0, 0, 0, 1, 1, 1]), 4);
+    assert_eq!(graded(bytes, &[1, 1, 1, 0, 0, 0, 0, 0]), 4);
     let (mut word, mut message, mut work) = (SHORT, [0; 5], vec![0; short().work_len()]);
     word[10] = 8;
     assert_eq!(short().decode(&word, &[0; 11], &mut message, &mut work), Err(Refusal::Foreign));

@@ -208,10 +208,13 @@ fn losses_past_the_guarantee_load_or_are_refused() {
     let said = place.run(0, "lose d 0 1 2 3 4");
     assert!(said.ends_with("lose: 5 of 20 drives gone: within the guarantee of 6, the file still loads\n"), "{said}");
     let said = place.run(0, "lose d 5 10");
-    assert!(said.ends_with("lose: 7 of 20 drives gone: past the guarantee of 6, the file may not load\n"), "{said}");
+    let past = "past the guarantee of 6, but the rest still decides every stripe: the file loads\n";
+    assert!(said.ends_with(&format!("lose: 7 of 20 drives gone: {past}")), "{said}");
     place.run(0, "load d g");
     assert_eq!(place.bytes("g"), noise(100));
-    place.run(0, "lose d 6 7");
+    let said = place.run(0, "lose d 6 7");
+    let past = "past the guarantee of 6, and the rest decides no stripe\n";
+    assert!(said.ends_with(&format!("lose: 9 of 20 drives gone: {past}")), "{said}");
     place.refused(1, "load d h", "load: stripe 0 refused 10: more than one codeword agrees with every kept symbol");
     assert!(!place.at("h").exists());
 }

@@ -38,13 +38,15 @@ pub fn lose(folder: &Path, slots: &[OsString]) -> Result<(), Trouble> {
 }
 
 fn summary(code: Code, marks: &[u8]) -> Result<String, Trouble> {
-    let grade = code.grade(marks).map_err(|refusal| Trouble::Refused(refusal.to_string()))?;
+    let mut work = vec![0; code.work_len()];
+    let grade = code.grade(marks, &mut work).map_err(|refusal| Trouble::Refused(refusal.to_string()))?;
     let (n, sure, others) = (code.n(), code.guarantee(), stripe::others(code));
     let gone = marks.iter().filter(|&&mark| mark == 1).count();
     let meaning = match grade {
         0 | 1 => format!("each is rebuilt from {others}"),
         2 => format!("within the guarantee of {sure}, the file still loads"),
-        _ => format!("past the guarantee of {sure}, the file may not load"),
+        3 => format!("past the guarantee of {sure}, but the rest still decides every stripe: the file loads"),
+        _ => format!("past the guarantee of {sure}, and the rest decides no stripe"),
     };
     Ok(format!("lose: {gone} of {n} drives gone: {meaning}"))
 }
