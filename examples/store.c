@@ -192,6 +192,8 @@ static void drive_name(uint32_t slot, char name[NAME_MOST]) { snprintf(name, NAM
 
 /* ---- the code ---- */
 
+static uint8_t work[LATSEFIDY_WORK_MOST]; /* lent to decode and grade */
+
 static uint32_t groups(const struct layout *l) { return (l->n + l->r) / (l->r + 1); }
 
 /* How many members a group has: r + 1, or in a short last group those that are left. */
@@ -213,11 +215,10 @@ static uint32_t slot_of(const struct layout *l, uint32_t group, uint32_t member)
 
 static size_t stripes_of(uint64_t length, uint32_t k) { return (size_t)((length + k - 1) / k); }
 
-/* The refusal of a code; grade asks of the code before it looks at the marks. */
+/* The refusal of a code: slot 0 of an accepted one has weights, so what is refused is the code. */
 static uint32_t code_refusal(const struct layout *l) {
-    static const uint8_t marks[DRIVES_MOST];
-    size_t length = l->n < DRIVES_MOST ? l->n : DRIVES_MOST;
-    return latsefidy_refusal(latsefidy_grade(BYTES, l->r, l->n, l->k, l->wiring, marks, length));
+    uint8_t weights[LATSEFIDY_WEIGHTS];
+    return latsefidy_weights(BYTES, l->r, l->n, l->k, l->wiring, 0, weights, sizeof weights);
 }
 
 /* Decimal digits alone, up to `most`: moves over them and answers 0, else -1. */
@@ -386,13 +387,20 @@ static int encode_all(const struct layout *l, const uint8_t *file, uint8_t *driv
     return DONE;
 }
 
+/* What a lost drive is rebuilt from; one of a short last group has fewer others. */
+static const char *others(const struct layout *l, char text[32]) {
+    uint32_t most = members(l, 0) - 1, least = members(l, groups(l) - 1) - 1;
+    snprintf(text, 32, "%s%" PRIu32 " other%s", least < most ? "at most " : "", most, most == 1 ? "" : "s");
+    return text;
+}
+
 static void say_stored(const struct layout *l, double start) {
-    char length[32], stripes[32];
-    uint32_t sure = guarantee(l), most = members(l, 0) - 1, least = members(l, groups(l) - 1) - 1;
+    char length[32], stripes[32], from[32];
+    uint32_t sure = guarantee(l);
     printf("store: %s bytes on %" PRIu32 " drives of %s bytes: %.1f MB/s (file bytes encoded and written a second)\n",
            grouped(l->length, length), l->n, grouped(l->stripes, stripes), megabytes_a_second(l->length, start));
-    printf("store: any %" PRIu32 " drive%s can be lost and the file still loads; one lost drive is rebuilt from %s%" PRIu32
-           " other%s\n", sure, sure == 1 ? "" : "s", least < most ? "at most " : "", most, most == 1 ? "" : "s");
+    printf("store: any %" PRIu32 " drive%s can be lost and the file still loads; one lost drive is rebuilt from %s\n", sure,
+           sure == 1 ? "" : "s", others(l, from));
 }
 
 static int store_bytes(const struct bytes *bytes, const char *folder, struct layout *l, double start) {
@@ -433,15 +441,36 @@ static int lose_drive(int folder, uint32_t slot) {
     return DONE;
 }
 
-static uint32_t drives_there(int folder, const struct layout *l) {
+/* Marks the drives that are gone; answers how many. */
+static uint32_t mark_gone(int folder, const struct layout *l, uint8_t marks[DRIVES_MOST]) {
     char name[NAME_MOST];
     struct stat found;
-    uint32_t there = 0;
+    uint32_t gone = 0;
     for (uint32_t p = 0; p < l->n; p++) {
         drive_name(p, name);
-        there += fstatat(folder, name, &found, 0) == 0;
+        marks[p] = fstatat(folder, name, &found, 0) != 0;
+        gone += marks[p];
     }
-    return there;
+    return gone;
+}
+
+/* What the losses mean for the file, by their grade. */
+static int say_lost(int folder, const struct layout *l) {
+    uint8_t marks[DRIVES_MOST];
+    char from[32];
+    uint32_t gone = mark_gone(folder, l, marks), sure = guarantee(l);
+    uint64_t grade = latsefidy_grade(BYTES, l->r, l->n, l->k, l->wiring, marks, l->n, work, sizeof work);
+    uint32_t refused = latsefidy_refusal(grade);
+    if (refused != 0) return refuse("the losses are refused, %" PRIu32 ": %s", refused, latsefidy_refusal_text(refused));
+    printf("lose: %" PRIu32 " of %" PRIu32 " drives gone: ", gone, l->n);
+    switch (latsefidy_value(grade)) {
+    case 0:
+    case 1: printf("each is rebuilt from %s\n", others(l, from)); break;
+    case 2: printf("within the guarantee of %" PRIu32 ", the file still loads\n", sure); break;
+    case 3: printf("past the guarantee of %" PRIu32 ", but the rest still decides every stripe: the file loads\n", sure); break;
+    default: printf("past the guarantee of %" PRIu32 ", and the rest decides no stripe\n", sure);
+    }
+    return DONE;
 }
 
 static int lose_all(int folder, const struct layout *l, int count, char **words) {
@@ -454,9 +483,7 @@ static int lose_all(int folder, const struct layout *l, int count, char **words)
         int status = lose_drive(folder, slot);
         if (status != DONE) return status;
     }
-    printf("lose: %" PRIu32 " of %" PRIu32 " drives are left; the file loads for sure while at most %" PRIu32 " are lost\n",
-           drives_there(folder, l), l->n, guarantee(l));
-    return DONE;
+    return say_lost(folder, l);
 }
 
 static int command_lose(int count, char **words) {
@@ -543,7 +570,6 @@ static int rebuild_groups(const struct layout *l, struct drives *drives) {
 
 /* Decodes a stripe to a message of k bytes. */
 static int decode_stripe(const struct layout *l, const struct drives *drives, size_t s, uint8_t *message) {
-    static uint8_t work[LATSEFIDY_WORK_MOST];
     uint8_t word[DRIVES_MOST], marks[DRIVES_MOST];
     for (uint32_t p = 0; p < l->n; p++) {
         marks[p] = drives->at[p] == NULL;
