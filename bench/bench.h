@@ -21,7 +21,9 @@
                                      size_t word_len, uint8_t *marks, size_t marks_len);                                    \
     uint32_t latsefidy_decode##s(uint32_t field, uint32_t r, uint32_t n, uint32_t k, uint32_t wiring, const uint8_t *word,  \
                                  size_t word_len, const uint8_t *marks, size_t marks_len, uint8_t *message,                 \
-                                 size_t message_len, uint8_t *work, size_t work_len);
+                                 size_t message_len, uint8_t *work, size_t work_len);                                       \
+    uint64_t latsefidy_grade##s(uint32_t field, uint32_t r, uint32_t n, uint32_t k, uint32_t wiring, const uint8_t *marks,  \
+                                size_t marks_len, uint8_t *work, size_t work_len);
 LEVEL()
 LEVEL(_v3)
 LEVEL(_v4)
@@ -34,6 +36,7 @@ extern const struct level {
     __typeof__(latsefidy_decode) *decode;
     __typeof__(latsefidy_local_pass) *pass;
     __typeof__(latsefidy_rebuild) *rebuild;
+    __typeof__(latsefidy_grade) *grade;
     int needs; /* AVX-512 */
 } levels[LEVELS];
 
@@ -72,5 +75,6 @@ void stripes(void);
 void strips(void);
 void wired(void);
 void short_groups(void);
+void grades(void);
 
 #endif
