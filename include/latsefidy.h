@@ -34,7 +34,7 @@
  *
  * Alignment. Bytes may stand anywhere; a buffer of 32-bit numbers is aligned as uint32_t is.
  *
- * Stack. Report takes about 66 kilobytes, decode and record about 4, the others less than 3. No
+ * Stack. Report takes about 66 kilobytes, decode and record less than 6, the others 3 or less. No
  * other memory is needed but the buffers. (Measured on the compiled code; no proof covers it.)
  *
  * Processors. The archive is for x86-64 and uses SSE2 alone, which each of them has. One built for
