@@ -1,5 +1,5 @@
 -- Whether some number, some list passes a test; the number that is m-th to pass. Assumes nothing: these are definitions.
--- A search is never run: proofs read off it what is there.
+-- No program runs a search: proofs read off it what is there.
 --   any t n         == some number below n passes t
 --   any-list k q t  == some list of k numbers below q passes t
 --   nth t n m       == of the numbers below n that pass t, the one with m such before it; n if there is none
