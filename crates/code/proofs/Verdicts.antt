@@ -1,5 +1,6 @@
 -- A verdict's three cases exclude each other. Assumes nothing.
 --   one-only, none-only, more-only   each condition gives its number
+--   found                            0 says that the message fits
 --   Two-fit, two-of-more             10 says that two different messages fit
 --   verdict-same                     where just the same messages fit, a verdict on one word is one on the other
 use mathlib.Core.Path.{_≡_, refl, sym, _∙_}
@@ -30,7 +31,12 @@ module _ (s : Shape) (ws ms : List ℕ) where
   more-only a z ys zs x (none v p) g h n = absurd (v ys g)
   more-only a z ys zs x (more xs us f k v p) g h n = (refl, p)
 
--- what 10 says
+-- what 0 says, and what 10 says
+pub found : (s : Shape) (ws ms a z : List ℕ) (x : ℕ) → x ≡ 0 → Verdict s ws ms a z x → fits s ws ms z ≡ true
+found s ws ms a z x e (one f u) = f
+found s ws ms a z x e (none h d) = absurd (omega arith)
+found s ws ms a z x e (more ys zs f g d r) = absurd (omega arith)
+
 pub record Two-fit (s : Shape) (ws ms : List ℕ) : Type 0 where
   pub one : List ℕ
   pub other : List ℕ

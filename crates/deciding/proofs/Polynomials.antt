@@ -1,5 +1,5 @@
 -- Whole groups: codewords that are 0 at every kept slot are polynomials that are 0 there and have no coefficient at the gaps. Assumes nothing.
---   points-*, kept-fewer, gaps-inside, most-byte    what the search for such polynomials asks for
+--   most-byte, gaps-inside, kept-fewer    what the question on such polynomials asks for
 --   annulled    what it answers
 use mathlib.Core.Path.{_≡_, sym, ap, _∙_}
 use mathlib.Core.Logic.{_≢_}

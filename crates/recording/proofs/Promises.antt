@@ -13,9 +13,9 @@ use Rattle.code.specs.Decoding.{agrees, fits}
 use Rattle.code.specs.Erasure.{grade}
 use Rattle.code.specs.Laws.{Family}
 use Rattle.code.specs.Promise.{Grade-tells}
-use Rattle.code.specs.Verdict.{Verdict, one, none, more}
+use Rattle.code.specs.Verdict.{Verdict, one, more}
 use Rattle.code.proofs.Decoding.{fits-intro}
-use Rattle.code.proofs.Verdicts.{more-only, two-of-more}
+use Rattle.code.proofs.Verdicts.{more-only, found, two-of-more}
 use Rattle.code.proofs.Graded.{grade-tells, grade-most}
 use Rattle.grading.proofs.Replies.{answered}
 use Rattle.decode.specs.Decode.{decode-refusal}
@@ -52,12 +52,6 @@ grade-decides n s ws ms y x a z w v o u F p r G D =
       others = λ e t. e (g ∙ ten s F ws ms a z x Q t);
     }
 
--- the verdict 0 is a message that fits
-zero-fits : (s : Shape) (ws ms a z : List ℕ) (x : ℕ) → Verdict s ws ms a z x → x ≡ 0 → fits s ws ms z ≡ true
-zero-fits s ws ms a z x (one f u) e = f
-zero-fits s ws ms a z x (none h d) e = absurd (omega arith)
-zero-fits s ws ms a z x (more ys zs f g d p) e = absurd (omega arith)
-
 record-grades : Record-grades
 unfolding Record-grades Record-says Record-as
 record-grades n c s ws ms x a z w v F r R = go (decode-refusal n s ws ms (length a) (length w)) r R
@@ -76,7 +70,7 @@ record-grades n c s ws ms x a z w v F r R = go (decode-refusal n s ws ms (length
                 arith,
                 t,
                 four-ten s F ws ms a z (outcome-number (x .record .outcome)) (R .verdict) (sym (R .numbers .grade-is) ∙ h) z
-                    (zero-fits s ws ms a z (outcome-number (x .record .outcome)) (R .verdict) t),
+                    (found s ws ms a z (outcome-number (x .record .outcome)) t (R .verdict)),
               )),
         )
 

@@ -1,6 +1,5 @@
 -- What is said of a word with zeros behind it as a word of whole groups holds of it as a word of the short code. Assumes nothing.
 --   Behind s ws ms     == word and marks are 0 behind the slots
---   found              the message of the answer 0 fits
 --   zeros-fit          a message of whole groups that fits is 0 there
 --   verdict-none       what is no message of whole groups is none of the short code
 --   verdict-one        the message of the same polynomial as the one that fits
@@ -32,12 +31,6 @@ use Rattle.shortening.proofs.Lengthening.{Lengthened, lengthens}
 
 abbrev pub Behind : Shape → (word marks : List ℕ) → Type 0
 Behind s ws ms = (p : ℕ) → s .n ≤ p → (at ws p ≡ 0) × (at ms p ≡ 0)
-
--- the message of the answer 0 fits
-pub found : (s : Shape) (ws ms a z : List ℕ) (x : ℕ) → x ≡ 0 → Verdict s ws ms a z x → fits s ws ms z ≡ true
-found s ws ms a z x e (one f u) = f
-found s ws ms a z x e (none h d) = absurd (omega arith)
-found s ws ms a z x e (more ys zs f g d r) = absurd (omega arith)
 
 module _ (s : Shape) (L : Plain s) (short : whole s ≡ false) (ws ms : List ℕ) (Z : Behind s ws ms) where
   abbrev P : Placed s

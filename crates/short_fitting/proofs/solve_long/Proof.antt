@@ -5,7 +5,8 @@ use Rattle.code.specs.Verdict.{Verdict}
 use Rattle.code.proofs.Decoding.{fits-message}
 use Rattle.shortening.specs.Mother.{mother}
 use Rattle.shortening.proofs.Mother.{mother-whole, mother-guarantee}
-use Rattle.short_fitting.proofs.Verdicts.{found, zeros-fit, verdict-none, verdict-one}
+use Rattle.code.proofs.Verdicts.{found}
+use Rattle.short_fitting.proofs.Verdicts.{zeros-fit, verdict-none, verdict-one}
 use Rattle.short_fitting.proofs.solve_long.Statement.{statement}
 use Rattle.short_fitting.proofs.solve_long.Tie as tie
 
