@@ -4,7 +4,8 @@ It shares no code and no table with the library: products are carry-less product
 inverses are searched for, codewords are values of the encoding polynomial, repair is Lagrange's
 formula, and decoding is Gauss-Jordan elimination over all kept equations. A code whose last group
 is short has another basis (g and h), and its repair there takes the missing points as zeros. The
-grade goes by the dimension of the code cut down to the kept slots, and never decodes.
+grade goes by the dimension of the code cut down to the kept slots, and never decodes. The preview
+marks the slot on a copy, counts and grades; of a whole sheet one elimination tells it of all slots.
 
 Each call takes the code and the caller's buffers (bytes, bytearray, or a list for 32-bit numbers),
 asks its questions in the order that is written above it, writes its outputs in place, and answers
@@ -24,6 +25,7 @@ MOST_STRIP = 4096
 SHEET_BUFFER = 255  # least length of the sheet reader's word and marks
 REPORT_INPUT = 1032
 REPORT_TEXT = 1032  # least length of the report's text buffer
+PREVIEW_TEXT = 8420  # least length of that of a sheet's preview
 NO_GROUP = 255
 DECIDED, FOREIGN, UNDECIDED = 0, 9, 10
 
@@ -350,13 +352,10 @@ def add_rows(field, a, b):
     return (int.from_bytes(a, "big") ^ int.from_bytes(b, "big")).to_bytes(len(a), "big")
 
 
-def eliminate(field, rows, unknowns):
-    """Gauss-Jordan elimination of rows of coefficients and a constant.
-
-    FOREIGN where no solution is, UNDECIDED where there are several; else DECIDED and the solution.
-    """
+def reduced(field, rows, columns):
+    """Gauss-Jordan elimination by the first columns: the rows, those first that lead a column, and how many do."""
     rows, rank, minus_one = list(rows), 0, sub(field, 0, 1)
-    for column in range(unknowns):
+    for column in range(columns):
         pivot = next((i for i in range(rank, len(rows)) if rows[i][column]), None)
         if pivot is None:
             continue
@@ -367,6 +366,13 @@ def eliminate(field, rows, unknowns):
                 factor = mul(field, minus_one, rows[i][column])
                 rows[i] = add_rows(field, rows[i], rows[rank].translate(multiples(field, factor)))
         rank += 1
+    return rows, rank
+
+
+def eliminate(field, rows, unknowns):
+    """Of rows of coefficients and a constant: FOREIGN where no solution is, UNDECIDED where there are several; else DECIDED
+    and the solution."""
+    rows, rank = reduced(field, rows, unknowns)
     if any(row[unknowns] for row in rows[rank:]):
         return FOREIGN, None
     if rank < unknowns:
@@ -451,14 +457,21 @@ def dimension(code):
     return rank(code.field, unit_codewords(code))
 
 
+def kept_parts(code, kept):
+    return [bytes(word[p] for p in kept) for word in unit_codewords(code)]
+
+
+def kept_slots(code, marks):
+    return [p for p in range(code.n) if marks[p] == 0]
+
+
 def undecided(code, marks):
     """Whether some two different codewords agree on the kept slots.
 
     Cutting codewords down to the kept slots is linear, so it makes two of them one exactly where what is left has a
     smaller dimension than the code.
     """
-    kept = [p for p in range(code.n) if marks[p] == 0]
-    return rank(code.field, [bytes(word[p] for p in kept) for word in unit_codewords(code)]) < dimension(code)
+    return rank(code.field, kept_parts(code, kept_slots(code, marks))) < dimension(code)
 
 
 def graded(code, marks):
@@ -498,6 +511,64 @@ def first_broken(code, marks):
     return 0, first_crowded(code, marks)
 
 
+def previewed(code, slot, marks):
+    """The number lost, the grade and the first group with two or more losses that follow from losing the slot too."""
+    copy = bytearray(marks)
+    copy[slot] = 1
+    return sum(copy), graded(code, copy), first_crowded(code, copy)
+
+
+def preview(code, slot, marks, work, out):
+    """1 2 3 4 17 5 7 8; out: lost grade first."""
+    refusal = code_refusal(code)
+    if refusal:
+        return refusal
+    used = code.n * (code.k + 1)
+    if len(marks) != code.n or len(work) < used or len(out) != 3:
+        return 5
+    if not slot < code.n:
+        return 7
+    if not marks_fit(marks):
+        return 8
+    work[:used] = bytes(used)
+    out[:] = previewed(code, slot, marks)
+    return 0
+
+
+def needed(code, marks):
+    """The kept slots each of whose loss leaves some two different codewords that agree on what is then kept.
+
+    Two such codewords differ by one that is 0 on the kept slots but the lost one. Where it is 0 there too, the kept slots
+    are undecided before, and all of them are such slots. Else its kept part is not 0 in one place alone, so that it is a
+    multiple of a reduced row.
+    """
+    kept = kept_slots(code, marks)
+    rows, rank = reduced(code.field, kept_parts(code, kept), len(kept))
+    if rank < dimension(code):
+        return kept
+    alone = [row for row in rows if row.count(0) == len(kept) - 1]
+    return [p for i, p in enumerate(kept) if any(row[i] for row in alone)]
+
+
+def previews(code, marks):
+    """Of each kept slot what previewed gives, by one count of the losses of each group and one elimination."""
+    lost, first = sum(marks) + 1, first_crowded(code, marks)
+    crowds = [len(losses(code, marks, g)) for g in range(groups(code))]
+    undecided_without = needed(code, marks) if lost > guarantee(code) else []
+    found = {}
+    for p in kept_slots(code, marks):
+        g = group(code, p)
+        then = min(first, g) if crowds[g] else first  # 255 is above every group
+        if then == NO_GROUP:
+            level = 1
+        elif lost <= guarantee(code):
+            level = 2
+        else:
+            level = 4 if p in undecided_without else 3
+        found[p] = lost, level, then
+    return found
+
+
 def record(code, word, marks, message, work, out):
     """1 2 3 4 17 5 8 6; out: field r n k wiring lost sure grade first outcome."""
     refusal = code_refusal(code)
@@ -514,7 +585,7 @@ def record(code, word, marks, message, work, out):
     return 0
 
 
-# Stripe sheet and report -------------------------------------------------------------------------
+# Stripe sheet, report and preview ----------------------------------------------------------------
 
 
 def read_sheet(sheet, word, marks, out):
@@ -567,6 +638,10 @@ def write_sheet(code, word, marks, sheet):
     return 0
 
 
+def text_of(lines):
+    return "".join(" ".join(map(str, line)) + "\n" for line in lines)
+
+
 def report_text(data):
     """What the report program writes for this input."""
     word, marks, out = bytearray(SHEET_BUFFER), bytearray(SHEET_BUFFER), [0] * 5
@@ -579,14 +654,35 @@ def report_text(data):
     lost, sure, level, first, outcome = fields[5:]
     answer = ["message", *message] if outcome == DECIDED else ["refused", outcome]
     named = code if code.wiring else code[:4]
-    lines = [["code", *named], ["lost", lost, "sure", sure, "grade", level, "first", first], answer]
-    return "".join(" ".join(map(str, line)) + "\n" for line in lines)
+    return text_of([["code", *named], ["lost", lost, "sure", sure, "grade", level, "first", first], answer])
+
+
+def preview_text(data):
+    """What the preview program writes for this input: code and marks alone count."""
+    word, marks, out = bytearray(SHEET_BUFFER), bytearray(SHEET_BUFFER), [0] * 5
+    refusal = read_sheet(data[:REPORT_INPUT], word, marks, out)
+    if refusal:
+        return f"refused {refusal}\n"
+    code = Code(*out)
+    found = previews(code, marks[: code.n])
+    lines = [["slot", p, "grade", level, "first", first] for p, (_, level, first) in found.items()]
+    safe = [p for p, (_, level, _) in found.items() if level < 4]
+    return text_of([*lines, ["safe", *safe]])
+
+
+def written(data, text, least, made):
+    if len(text) < least:
+        return 5, 0
+    line = made(data).encode()
+    text[: len(line)] = line
+    return 0, len(line)
 
 
 def report(data, text):
     """5; the value is the length of the text. A refused sheet is no refusal of the call."""
-    if len(text) < REPORT_TEXT:
-        return 5, 0
-    written = report_text(data).encode()
-    text[: len(written)] = written
-    return 0, len(written)
+    return written(data, text, REPORT_TEXT, report_text)
+
+
+def preview_sheet(data, text):
+    """5; the value as for report."""
+    return written(data, text, PREVIEW_TEXT, preview_text)

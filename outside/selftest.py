@@ -1,5 +1,5 @@
 """Checks the reference: the paper's worked cases, brute force over small codes of thirteen by both wirings and with short
-last groups, grades against decoding, and which calls vectors.py makes.
+last groups, grades and previews against decoding, and which calls vectors.py makes.
 
     python3 outside/selftest.py
 """
@@ -50,6 +50,17 @@ def grade(code, lost):
         refusal, value = ref.grade(code, marked(code.n, lost), work)
         assert refusal == 0 and work == bytes(used) + b"\xbb" * (room - used)
     return value
+
+
+def preview(code, slot, lost):
+    """The number lost, the grade and the first group with the slot lost too; that the marks stay and the work buffer's rule
+    are tested on the way."""
+    used, marks = code.n * (code.k + 1), bytearray(marked(code.n, lost))
+    for room in (used, used + 3):
+        work, out = bytearray(b"\xbb" * room), [7] * 3
+        assert ref.preview(code, slot, marks, work, out) == 0 and marks == marked(code.n, lost)
+        assert work == bytes(used) + b"\xbb" * (room - used)
+    return tuple(out)
 
 
 def sheet(text):
@@ -336,12 +347,26 @@ def test_report_size():
     assert len(text) == 1021 and len(longest) == 1024 <= ref.REPORT_TEXT
 
 
+def test_preview_size():
+    """The longest text: nothing of the longest code is lost, and every slot is safe. Each number has at most three digits."""
+    for code in (Code(1, 14, 255, 1), Code(1, 16, 255, 240, 1)):
+        data = bytearray(4 * 257)
+        assert ref.write_sheet(code, bytes(255), bytes(255), data) == 0
+        text = ref.preview_text(data)
+        safe = "safe " + " ".join(map(str, range(255))) + "\n"
+        assert text == "".join(f"slot {p} grade 1 first 255\n" for p in range(255)) + safe
+        assert len(text) == 27 * 155 + 26 * 90 + 25 * 10 + 4 + 4 * 155 + 3 * 90 + 2 * 10 + 1 == 7690
+    longest = 255 * "slot 255 grade 255 first 255\n" + "safe" + 255 * " 255" + "\n"
+    assert len(longest) == 8420 == ref.PREVIEW_TEXT
+
+
 def test_samples():
-    """Each sample sheet gives the text beside it."""
+    """Each sample sheet gives the texts beside it."""
     sheets = sorted(Path(__file__).parent.parent.glob("samples/*.hex"))
     assert sheets
     for path in sheets:
         assert ref.report_text(sheet(path.read_text())) == path.with_suffix(".txt").read_text()
+        assert ref.preview_text(sheet(path.read_text())) == path.with_suffix(".preview.txt").read_text()
 
 
 def small_codes(most_k):
@@ -726,6 +751,177 @@ def test_grade_vectors():
     for level, field, kind, exact in itertools.product(range(5), (0, 1), ("wired", "short", "plain"), (True, False)):
         assert seen[level, field, kind, exact], (level, field, kind, exact)
     assert seen[3, "one past"] > 15 and seen[4, "one past"] > 30
+
+
+def test_preview():
+    """Worked numbers: what is lost, the slot, and the number lost, the grade and the first group that follow."""
+    for code, lost, slot, wanted in [
+        (N, [], 7, (1, 1, 255)),
+        (N, [0], 3, (2, 1, 255)),
+        (N, [0, 3], 7, (3, 1, 255)),
+        (N, [0], 1, (2, 2, 0)),
+        (N, [0, 4, 7], 8, (4, 2, 2)),
+        (N, [2, 3, 5], 1, (4, 2, 0)),
+        (N, range(4), 4, (5, 4, 0)),
+        (N, range(4), 6, (5, 3, 0)),
+        (N, range(4), 0, (4, 2, 0)),
+        (N, [2, 5, 6, 7], 8, (5, 3, 2)),
+        (N, [4, 5, 6, 7], 8, (5, 4, 1)),
+        (N, [2, 5, 6, 7, 8], 7, (5, 3, 2)),
+        (N, [2, 5, 6, 7, 8], 0, (6, 4, 0)),
+        (N, range(1, 9), 0, (9, 4, 0)),
+        (N, range(9), 8, (9, 4, 0)),
+        (WIRED, [0, 1], 0, (2, 1, 255)),
+        (WIRED, [0, 1], 2, (3, 1, 255)),
+        (WIRED, [0, 1], 3, (3, 2, 0)),
+        (WIRED, [0, 1, 3, 4], 6, (5, 4, 0)),
+        (WIRED, [0, 1, 3, 4], 2, (5, 3, 0)),
+        (WIRED, [2, 5, 6, 7], 8, (5, 3, 2)),
+        (Code(0, 2, 12, 6), [0, 3, 6, 9], 10, (5, 3, 3)),  # three groups mend themselves, and two losses are left
+        (Code(0, 2, 12, 8), [0, 3, 6], 9, (4, 1, 255)),
+        (Code(0, 2, 12, 8), [0, 3, 6], 7, (4, 4, 2)),
+        (ELEVEN, [0, 9], 10, (3, 2, 3)),
+        (ELEVEN, [0, 5, 9, 10], 8, (5, 3, 3)),
+        (ELEVEN, [0, 1, 2, 9], 10, (5, 4, 0)),
+        (ELEVEN, range(6, 10), 10, (5, 4, 2)),
+        (Code(1, 4, 8, 5), [5], 6, (2, 2, 1)),
+        (Code(1, 4, 8, 5), [5, 6], 0, (3, 3, 1)),
+        (Code(1, 4, 8, 5), [5, 6], 7, (3, 4, 1)),
+        (Code(1, 2, 9, 5, 1), [0, 3], 6, (3, 4, 0)),
+        (Code(1, 2, 9, 5, 1), [0, 3], 7, (3, 3, 0)),
+    ]:
+        assert preview(code, slot, lost) == wanted, (code, lost, slot)
+
+
+def test_preview_order():
+    """1 2 3 4 17 5 7 8. 5 is marks, work and the answer's length; a refusal leaves every buffer."""
+    bad, good = bytes([0] * 8 + [2]), marked(9, [2, 5, 6, 7])
+
+    def refused(code, slot, marks, room, places=3):
+        work, out, left = bytearray(b"\xbb" * room), [7] * places, bytearray(marks)
+        refusal = ref.preview(code, slot, left, work, out)
+        assert work == b"\xbb" * room and out == [7] * places and left == marks
+        return refusal
+
+    wrong = [(N._replace(field=2), 1), (N._replace(r=4), 2), (N._replace(n=10), 3), (N._replace(k=7), 4)]
+    for code, number in [*wrong, (N._replace(wiring=2), 17), (N._replace(k=7, wiring=2), 4)]:
+        for slot, marks, room, places in itertools.product((8, 9), (good, bad, good[1:]), (0, 44, 45), (2, 3)):
+            assert refused(code, slot, marks, room, places) == number
+    for slot, marks in itertools.product((8, 9, 2**32 - 1), (good, bad)):
+        assert refused(N, slot, marks, 44) == refused(N, slot, marks, 0) == refused(N, slot, marks, 44, 2) == 5
+        assert refused(N, slot, marks[1:], 45) == refused(N, slot, marks + b"\0", 45) == refused(N, slot, b"", 45) == 5
+        assert all(refused(N, slot, marks, 45, places) == 5 for places in (0, 1, 2, 4, 10))
+    for slot, marks in itertools.product((9, 10, 255, 256, 2**31, 2**32 - 1), (good, bad, b"\xff" * 9)):
+        assert refused(N, slot, marks, 45) == refused(WIRED, slot, marks, 50) == 7
+    assert refused(ELEVEN, 11, bytes(11), 66) == 7 and refused(ELEVEN, 11, bytes([2] * 11), 65) == 5
+    for slot in range(9):
+        assert refused(N, slot, bad, 45) == refused(N, slot, b"\xff" * 9, 50) == 8  # the slot's own mark is asked too
+    work, out = bytearray(b"\xbb" * 50), [7] * 3
+    assert ref.preview(N, 8, good, work, out) == 0 and out == [5, 3, 2] and work == bytes(45) + b"\xbb" * 5
+
+
+def test_preview_laws():
+    """A lost slot changes nothing. A kept one is one more lost; no grade falls and no first group rises. A slot is safe where
+    decode gives a codeword's message back without it."""
+    rng, seen = random.Random(16), set()
+    codes = list(itertools.chain(small_codes(11), short_codes(10)))
+    codes += [Code(1, 4, 20, 12, 1), Code(1, 4, 25, 14), Code(1, 4, 18, 10), Code(1, 2, 15, 7), Code(1, 14, 45, 30, 1)]
+    for code in codes:
+        for _ in range(4):
+            marks = bytes(vectors.pick_marks(rng, code))
+            lost = [p for p in range(code.n) if marks[p]]
+            level, first = grade(code, lost), ref.first_crowded(code, marks)
+            message = bytes(rng.randrange(ref.order(code.field)) for _ in range(code.k))
+            word = encoded(code, message)
+            for p in range(code.n) if code.n <= 12 else rng.sample(range(code.n), 6):
+                follows = preview(code, p, lost)
+                assert follows == (sum(marks) + 1 - marks[p], grade(code, [*lost, p]), follows[2])
+                assert follows[2] == ref.first_broken(code, marked(code.n, [*lost, p]))[1]
+                if marks[p]:
+                    assert follows == (len(lost), level, first)
+                else:
+                    assert follows[0] == len(lost) + 1 and follows[1] >= max(level, 1) and follows[2] <= first
+                    answer = decoded(code, word, marked(code.n, [*lost, p]))
+                    assert answer == (0, message) if follows[1] < 4 else answer[0] == 10
+                    seen.add((level, follows[1]))
+    assert seen == set(vectors.STEPS)
+
+
+def test_previews_of_all():
+    """What one count and one elimination tell of all kept slots is what each slot's preview is."""
+    rng, seen = random.Random(17), Counter()
+    codes = list(itertools.chain(small_codes(11), short_codes(10)))
+    codes += [Code(1, 4, 20, 12, 1), Code(1, 4, 25, 14), Code(1, 4, 18, 10), Code(1, 2, 15, 7), Code(1, 14, 45, 30, 1)]
+    codes += [Code(1, 16, 255, 240), Code(1, 2, 255, 170, 1), Code(1, 16, 250, 230), Code(1, 14, 255, 1)]
+    for code in codes:
+        for _ in range(6 if code.n < 250 else 2):
+            marks = vectors.pick_marks(rng, code)
+            kept, found = ref.kept_slots(code, marks), ref.previews(code, marks)
+            assert list(found) == kept
+            for p in kept if code.n < 250 else rng.sample(kept, min(len(kept), 4)):
+                assert found[p] == ref.previewed(code, p, marks), (code, marks, p)
+            levels = {level for _, level, _ in found.values()}
+            seen[4 in levels, bool(levels - {4})] += 1
+    assert min(seen[True, False], seen[True, True], seen[False, True], seen[False, False]) > 20
+
+
+def test_preview_sheets():
+    """A line for each kept slot and the safe ones; a sheet's refusal as in the report; symbols of no codeword change nothing."""
+    foreign = ONES_WORD[:8] + b"\1"
+    assert decoded(N, foreign, marked(9, range(4)))[0] == 9
+    for lost, text in [
+        ([0, 3], "slot 1 grade 2 first 0\nslot 2 grade 2 first 0\nslot 4 grade 2 first 1\nslot 5 grade 2 first 1\n"
+         "slot 6 grade 1 first 255\nslot 7 grade 1 first 255\nslot 8 grade 1 first 255\nsafe 1 2 4 5 6 7 8\n"),
+        (range(4), "slot 4 grade 4 first 0\nslot 5 grade 4 first 0\n"
+         "slot 6 grade 3 first 0\nslot 7 grade 3 first 0\nslot 8 grade 3 first 0\nsafe 6 7 8\n"),
+        ([2, 5, 6, 7, 8], "".join(f"slot {p} grade 4 first {p // 3}\n" for p in (0, 1, 3, 4)) + "safe\n"),
+        (range(9), "safe\n"),
+    ]:
+        for word in (ONES_WORD, foreign):
+            data = plain_sheet(N, word, marked(9, lost))
+            assert ref.preview_text(data) == text, lost
+            out = bytearray(b"\xcc" * 8421)
+            assert ref.preview_sheet(data, out) == (0, len(text))
+            assert out == text.encode() + b"\xcc" * (8421 - len(text))
+    example = sheet("10020301 20000005 30000100 20000205 40000003")
+    assert ref.preview_text(example) == "slot 0 grade 2 first 0\nslot 2 grade 2 first 0\nsafe 0 2\n"
+    assert ref.preview_text(example + bytes(1009)) == "refused 11\n"
+    assert ref.preview_text(example + bytes(2000)) == "refused 13\n"
+    short = bytearray(8419)
+    assert ref.preview_sheet(example, short) == (5, 0) and short == bytes(8419)
+    rng, refused = random.Random(18), Counter()
+    for index in range(400):
+        data, number, _ = vectors.make_call(rng, "preview_sheet", index + len(vectors.CORNERS))
+        length, given = struct.unpack_from(">2I", data, 36)
+        given = data[44 : 44 + given]
+        report, text = ref.report_text(given), ref.preview_text(given)
+        assert (text == report) == (text[:7] == "refused") == (report[:7] == "refused")
+        assert number in (5, int(text[8:]) if text[:7] == "refused" else 0)
+        refused[number] += 1
+    assert set(refused) == vectors.ANSWERS["preview_sheet"]
+
+
+def test_preview_vectors():
+    """vectors.py makes previews of lost and kept slots, of n - 1, of every step between grades, and faults of 7 with 8."""
+    rng, seen = random.Random(19), Counter()
+    for index in range(2000):
+        data, refusal, step = vectors.make_call(rng, "preview", index)
+        code, (slot, count, length, given) = Code(*struct.unpack_from(">5I", data, 8)), struct.unpack_from(">4I", data, 28)
+        marks = data[44 : 44 + given]
+        assert count == 3
+        seen["7 and 8"] += refusal == 7 and max(marks) > 1
+        if refusal:
+            continue
+        assert length == given == code.n and slot < code.n
+        kind = "wired" if code.wiring else "short" if ref.short(code) else "plain"
+        assert step == (ref.graded(code, marks), ref.previewed(code, slot, marks)[1])
+        seen["lost" if marks[slot] else step, code.field] += 1
+        seen[step[1], kind] += 1
+        seen["last"] += slot == code.n - 1
+    assert all(seen[step, field] for step in ["lost", *vectors.STEPS] for field in (0, 1)), seen
+    assert all(seen[level, kind] for level in range(1, 5) for kind in ("wired", "short", "plain"))
+    assert seen["7 and 8"] > 100 and seen["last"] > 50
+    assert all(sum(seen[step, field] for field in (0, 1)) > 20 for step in ((1, 2), (2, 3), (2, 4), (3, 4)))
 
 
 def test_record():
