@@ -14,12 +14,13 @@
 
 #include "../include/latsefidy.h"
 
-enum { CALLS = 12, BUFFERS = 5, LONGEST = 65600, GUARD = 64, GUARD_BYTE = 0xA5, SHOWN = 20 };
+enum { CALLS = 14, BUFFERS = 5, LONGEST = 65600, GUARD = 64, GUARD_BYTE = 0xA5, SHOWN = 20 };
 
 static const char *const NAMES[CALLS + 1] = {
-    "",       "encode", "weights", "repair",     "rebuild",     "view",  "local_pass",
-    "decode", "grade",  "record",  "read_sheet", "write_sheet", "report"};
-static const uint32_t COUNTS[CALLS + 1] = {0, 2, 1, 1, 2, 1, 2, 4, 2, 5, 4, 3, 2};
+    "",       "encode", "weights", "repair",     "rebuild",     "view",   "local_pass",
+    "decode", "grade",  "record",  "read_sheet", "write_sheet", "report", "preview",
+    "preview_sheet"};
+static const uint32_t COUNTS[CALLS + 1] = {0, 2, 1, 1, 2, 1, 2, 4, 2, 5, 4, 3, 2, 3, 2};
 
 /* A buffer: what it holds before and after, and the memory that it is lent in. */
 struct buffer {
@@ -99,8 +100,8 @@ static int next_record(void) {
     return 1;
 }
 
-/* A buffer of 32-bit numbers: the last of record and of read_sheet. */
-static int is_wide(uint32_t i) { return (call == 9 && i == 4) || (call == 10 && i == 3); }
+/* A buffer of 32-bit numbers: the last of record, of read_sheet and of preview. */
+static int is_wide(uint32_t i) { return (call == 9 && i == 4) || (call == 10 && i == 3) || (call == 13 && i == 2); }
 
 /* Lends the buffer at the end (side 0) or the start (side 1) of its arena. */
 static void place(uint32_t i, int side) {
@@ -157,7 +158,9 @@ static uint64_t answer(void) {
     case 9: return refusal_only(latsefidy_record(CODE, BYTES(0), BYTES(1), BYTES(2), BYTES(3), NUMBERS(4)));
     case 10: return refusal_only(latsefidy_read_sheet(BYTES(0), BYTES(1), BYTES(2), NUMBERS(3)));
     case 11: return refusal_only(latsefidy_write_sheet(CODE, BYTES(0), BYTES(1), BYTES(2)));
-    default: return latsefidy_report(BYTES(0), BYTES(1));
+    case 12: return latsefidy_report(BYTES(0), BYTES(1));
+    case 13: return refusal_only(latsefidy_preview(CODE, SLOT, BYTES(0), BYTES(1), NUMBERS(2)));
+    default: return latsefidy_preview_sheet(BYTES(0), BYTES(1));
     }
 }
 
@@ -203,9 +206,9 @@ int main(void) {
     signal(SIGSEGV, on_fault);
     signal(SIGBUS, on_fault);
     for (; next_record(); record_number++) run_record();
-    printf("%-12s %8s %8s %10s\n", "function", "calls", "refused", "mismatches");
+    printf("%-13s %8s %8s %10s\n", "function", "calls", "refused", "mismatches");
     for (call = 1; call <= CALLS; call++) {
-        printf("%-12s %8lu %8lu %10lu\n", NAMES[call], calls[call], refused[call], wrong[call]);
+        printf("%-13s %8lu %8lu %10lu\n", NAMES[call], calls[call], refused[call], wrong[call]);
         failed |= wrong[call] != 0 || calls[call] == 0;
     }
     puts(failed ? "FAILED" : "all agree");

@@ -5,13 +5,14 @@
 The calls are valid, damaged and refused, with one fault or with several at once, over both fields,
 both wirings, short last groups and the corner codes. Besides come good rebuilds of every locality r of both fields at
 every length where the strip kernel takes another way, and in short last groups with every number of mates, unless
-"lengths" is among the names. A table of how often each answer came, and each grade, goes to standard error.
+"lengths" is among the names. A table of how often each answer came, and each grade, goes to standard error; of previews
+each grade before and after.
 
 Format: a row of records and then the number 0. Every number is 32 bits, high byte first.
 
     size        bytes of this record after this number; at least 40
     call        1 encode, 2 weights, 3 repair, 4 rebuild, 5 view, 6 local_pass, 7 decode, 8 grade,
-                9 record, 10 read_sheet, 11 write_sheet, 12 report
+                9 record, 10 read_sheet, 11 write_sheet, 12 report, 13 preview, 14 preview_sheet
     field r n k wiring slot    the call's numbers; 0 where it takes none
     buffers     how many buffers follow: those of the C function, in its order
       length given bytes   for each: before the call it has this length, and its byte i is the
@@ -20,8 +21,9 @@ Format: a row of records and then the number 0. Every number is 32 bits, high by
       length given bytes   for each buffer again: after the call its first bytes, this many, are
                            the given bytes in the same way, and the rest is as before
 
-A buffer of 32-bit numbers (record, code) is 4 bytes a number, high byte first; its length counts
-bytes. A buffer that the call only reads is given in full. No buffer is longer than 65,600 bytes.
+A buffer of 32-bit numbers (record, code, preview) is 4 bytes a number, high byte first; its length
+counts bytes. A buffer that the call only reads is given in full. No buffer is longer than 65,600
+bytes.
 """
 
 import itertools
@@ -46,8 +48,11 @@ BUFFERS = {
     "read_sheet": ("sheet", "word", "marks", "code"),
     "write_sheet": ("word", "marks", "sheet"),
     "report": ("input", "text"),
+    "preview": ("marks", "work", "preview"),
+    "preview_sheet": ("input", "text"),
 }
 CALLS = list(BUFFERS)
+WIDE = ("record", "code", "preview")  # buffers of 32-bit numbers
 
 # The questions that a fault can be aimed at. A sheet fails 17 by a short last group alone: its wiring is one bit.
 QUESTIONS = {
@@ -63,13 +68,17 @@ QUESTIONS = {
     "read_sheet": (1, 2, 3, 4, 17, 5, 6, 11, 12, 13, 14, 15),
     "write_sheet": (1, 2, 3, 4, 17, 5, 6, 8),
     "report": (1, 2, 3, 4, 17, 5, 6, 11, 12, 13, 14, 15),
+    "preview": (1, 2, 3, 4, 17, 5, 7, 8),
+    "preview_sheet": (1, 2, 3, 4, 17, 5, 6, 11, 12, 13, 14, 15),
 }
 
-# Every number that each call can answer; the record's outcome and the report's text count too.
+# Every number that each call can answer; the record's outcome and the texts count too.
 ANSWERS = {name: {0, *numbers} for name, numbers in QUESTIONS.items()}
 SOLVERS = ("decode", "record", "report")
-GRADERS = ("grade", *SOLVERS)
-READERS = ("read_sheet", "report")
+GRADERS = ("grade", "preview", "preview_sheet", *SOLVERS)
+WRITERS = {"report": ref.REPORT_TEXT, "preview_sheet": ref.PREVIEW_TEXT}  # of a text, and its buffer's least length
+READERS = ("read_sheet", *WRITERS)
+SLOTTED = ("weights", "repair", "rebuild", "view", "preview")
 for solver in SOLVERS:
     ANSWERS[solver] |= {9, 10}
 
@@ -119,7 +128,8 @@ SHORT = 0.35  # the share of the others whose last group is short
 ROOMY = 0.6  # of the codes that are graded, the share that is to have losses of grade 3
 LARGEST = 2**32 - 1
 LONGEST = 65600  # bytes of a buffer
-TAILS = (1, 3, 4, 5)  # bytes after the longest sheet; the report reads the first four
+TAILS = (1, 3, 4, 5)  # bytes after the longest sheet; the report and the preview read the first four
+STEPS = [(0, 1)] + [(a, b) for a in range(1, 5) for b in range(a, 5)]  # the grades before a preview's slot is lost and after
 
 
 # Buffers and records -----------------------------------------------------------------------------
@@ -164,9 +174,9 @@ def change(before, after):
 
 
 def answer(name, code, slot, args):
-    if name in ("weights", "repair", "rebuild", "view"):
+    if name in SLOTTED:
         got = getattr(ref, name)(code, slot, *args)
-    elif name in ("read_sheet", "report"):
+    elif name in READERS:
         got = getattr(ref, name)(*args)
     else:
         got = getattr(ref, name)(code, *args)
@@ -177,17 +187,24 @@ def shown(name, refusal, args):
     """The number by which a call is counted."""
     if refusal == 0 and name == "record":
         return args[4][9]
-    if refusal == 0 and name == "report" and b"refused " in args[1]:
+    if refusal == 0 and name in WRITERS and b"refused " in args[1]:
         return int(args[1].split(b"refused ")[1].split(b"\n")[0])
     return refusal
 
 
+def told(name, refusal, value, code, args):
+    """The value that a call is counted by: of a preview the grade before the slot's loss and after."""
+    if refusal == 0 and name == "preview":
+        return ref.graded(code, args[0]), args[2][1]
+    return value
+
+
 def make_record(name, code, slot, buffers):
-    """The record's bytes, the number that it shows, and the value."""
+    """The record's bytes, the number that it shows, and the value that it tells."""
     args = []
     for kind, buffer in zip(BUFFERS[name], buffers):
         data = bytearray(buffer.data)
-        wide = kind in ("record", "code")
+        wide = kind in WIDE
         args.append(list(struct.unpack(f">{len(data) // 4}I", data)) if wide else data)
     refusal, value = answer(name, code, slot, args)
     out = [numbers(CALLS.index(name) + 1, *code, slot, len(buffers))]
@@ -197,7 +214,7 @@ def make_record(name, code, slot, buffers):
         out.append(change(buffer.data, numbers(*arg) if isinstance(arg, list) else bytes(arg)))
     assert all(len(b.data) <= LONGEST for b in buffers)
     body = b"".join(out)
-    return numbers(len(body)) + body, shown(name, refusal, args), value
+    return numbers(len(body)) + body, shown(name, refusal, args), told(name, refusal, value, code, args)
 
 
 # Codes and stripes -------------------------------------------------------------------------------
@@ -340,6 +357,23 @@ def pick_stripe(rng, code, noise):
     return word, marks
 
 
+def kept_again(rng, code, word, marks):
+    """One of the lost slots, which is kept now with some symbol: its loss makes the losses what they were."""
+    slot = rng.choice([p for p in range(code.n) if marks[p]] or range(code.n))
+    word[slot], marks[slot] = rng.randrange(ref.order(code.field)), 0
+    return slot
+
+
+def pick_loss(rng, code, slot, word, marks):
+    """The slot of a preview: often a lost one that is kept again, at times one that stays lost, or the last, else this one."""
+    lost, shape = [p for p in range(code.n) if marks[p]], rng.random()
+    if shape < 0.6:
+        return kept_again(rng, code, word, marks)
+    if shape < 0.75 and lost:
+        return rng.choice(lost)
+    return code.n - 1 if shape > 0.95 else slot
+
+
 def single_groups(code, marks):
     return [g for g in range(ref.groups(code)) if sum(marks[p] for p in ref.members(code, g)) == 1]
 
@@ -354,11 +388,15 @@ class Draft:
         self.columns = columns
         self.rng, self.name, self.code, self.base = rng, name, code, code
         self.slot = 0 if slot is None else slot
-        if slot is None and name in ("weights", "repair", "rebuild", "view"):
+        if slot is None and name in SLOTTED:
             self.slot = pick_slot(rng, code)
         self.word, self.marks = (bytearray(), bytearray())
-        if "word" in BUFFERS[name] or "marks" in BUFFERS[name] or name == "report":
+        if "word" in BUFFERS[name] or "marks" in BUFFERS[name] or name in WRITERS:
             self.word, self.marks = pick_stripe(rng, code, 0.1 if name in SOLVERS else 0.9)
+        if name == "preview":
+            self.slot = pick_loss(rng, code, self.slot, self.word, self.marks)
+        if name == "preview_sheet" and rng.random() < 0.5:
+            kept_again(rng, code, self.word, self.marks)
         self.rows = []
         if name in READERS:
             self.rows = sheet_rows(code, self.word, self.marks)
@@ -400,7 +438,8 @@ class Draft:
             "marks": rng.choice([255, 255, 256, 300]),
             "code": 20,
             "sheet": 4 * (code.n + 2),
-            "text": rng.choice([1032, 1032, 1033, 1300]),
+            "text": WRITERS.get(self.name, 0) + rng.choice([0, 0, 1, 268]),
+            "preview": 12,
         }[kind]
 
     def finished(self):
@@ -490,12 +529,13 @@ def fault_length(rng, draft):
     have = len(draft.buffers[kind].data)
     used = base.n * (base.k + 1)
     lengths = [0, have - 1, have + 1, 2 * have, have + 256]
-    if kind in ("record", "code"):
+    if kind in WIDE:
         lengths = [0, 4, have - 4, have + 4, 2 * have]
     if kind == "work":
         lengths = [0, used - 1, used - base.n, rng.randrange(used)]
     if kind == "text":
-        lengths = [0, 10, 1031, rng.randrange(1032)]
+        least = WRITERS[draft.name]
+        lengths = [0, 10, least - 1, rng.randrange(least)]
     if kind in ("word", "marks") and draft.name == "read_sheet":
         lengths = [0, 254, base.n - 1, rng.randrange(255)]
     if kind == "strip" and rng.random() < 0.3:
@@ -642,6 +682,8 @@ def aims(rng, name, index):
         return []
     if shape < 7:
         return [asked[(3 * turn + shape - 4) % len(asked)]]
+    if shape == 9 and name == "preview":
+        return [7, 8]
     late = [a for a in asked if a > 4]
     pool = late if shape == 7 and len(late) > 1 else asked
     return rng.sample(pool, min(len(pool), rng.choice([2, 2, 3])))
@@ -652,7 +694,7 @@ def make_call(rng, name, index):
     aimed, late = [], index - len(CORNERS)
     if late < 0:
         draft = Draft(rng, name, CORNERS[index])
-    elif name == "report" and late < len(TAILS):
+    elif name in WRITERS and late < len(TAILS):
         draft = Draft(rng, name, Code(1, 14, 255, 1, late % 2))
         draft.tail = rng.randbytes(TAILS[late])
     else:
@@ -695,7 +737,8 @@ def main():
             data, number, value = make_call(rng, name, index)
             out.write(data)
             seen[name, number] += 1
-            seen["grades", value] += name == "grade" and number == 0
+            if name in ("grade", "preview") and number == 0:
+                seen[name + "s", value] += 1
     for data, number, _ in rebuilds(rng) if "lengths" not in left_out else ():
         out.write(data)
         seen["rebuild", number] += 1
@@ -703,13 +746,15 @@ def main():
     out.flush()
     for name in names:
         row = [f"{a}:{seen[name, a]}" for a in sorted(ANSWERS[name])]
-        print(f"{name:12}", *row, file=sys.stderr)
+        print(f"{name:13}", *row, file=sys.stderr)
         stray = {a for n, a in seen if n == name} - ANSWERS[name]
         assert not stray, (name, stray)
         assert count < 600 or all(seen[name, a] for a in ANSWERS[name]), name
-    if "grade" in names:
-        print(f"{'grades':12}", *(f"{a}:{seen['grades', a]}" for a in range(5)), file=sys.stderr)
-        assert count < 600 or all(seen["grades", a] for a in range(5))
+    for name, values in (("grade", range(5)), ("preview", STEPS)):
+        if name in names:
+            row = [f"{'-'.join(map(str, v)) if name == 'preview' else v}:{seen[name + 's', v]}" for v in values]
+            print(f"{name + 's':13}", *row, file=sys.stderr)
+            assert count < 600 or all(seen[name + "s", v] for v in values)
 
 
 if __name__ == "__main__":
