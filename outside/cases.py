@@ -55,6 +55,13 @@ def decodes(code, word, marks, message, work):
     line(refusal, *ref.grade(code, marks, work), *message)
 
 
+def previews(code, slot, marks, work):
+    out = [0] * 3
+    refusal = ref.preview(code, slot, marks, work, out)
+    head("preview", code)
+    line(refusal, *out)
+
+
 def breaks(code, marks):
     head("first", code)
     line(*ref.first_broken(code, marks))
@@ -81,6 +88,16 @@ def classroom():
         ("000020000", word),
     ]:
         decodes(code, received, bytes(map(int, text)), bytearray([7] * 4), bytearray(45))
+    for slot, text in [
+        (7, "000000000"),
+        (4, "111100000"),
+        (0, "111100000"),  # lost already
+        (8, "001001110"),
+        (8, "000011110"),
+        (9, "000020000"),  # 7 before 8
+        (3, "000020000"),
+    ]:
+        previews(code, slot, bytes(map(int, text)), bytearray(45))
 
 
 def questions():
@@ -120,6 +137,8 @@ def wired(field, *message):
     views(code, 4, bytes([10]))
     for text in ("110110000", "111001001", "110110100"):
         decodes(code, word, bytes(map(int, text)), bytearray([7] * 4), bytearray(45))
+    for slot, text in [(6, "110110000"), (0, "110000000")]:
+        previews(code, slot, bytes(map(int, text)), bytearray(45))
     for text in ("110000000", "010010000"):
         breaks(code, bytes(map(int, text)))
     passes(code, word, bytearray([1, 1] + [0] * 7))
@@ -139,6 +158,8 @@ def short(field, *message):
     views(code, 9, word)
     for text in ("10000000001", "11000000011", "10000100111", "11100000011"):
         decodes(code, word, bytes(map(int, text)), bytearray([7] * 5), bytearray(66))
+    for slot, text in [(10, "10000000010"), (8, "10000100011")]:
+        previews(code, slot, bytes(map(int, text)), bytearray(66))
     for text in ("00000000011", "00000000110"):
         breaks(code, bytes(map(int, text)))
     passes(code, word, bytearray([1] + [0] * 9 + [1]))
@@ -160,6 +181,7 @@ def corner(*numbers):
     encodes(code, message, word)
     word[0], marks[0] = 255, 1
     decodes(code, word, marks, bytearray(code.k), bytearray(code.n * (code.k + 1)))
+    previews(code, code.n - 1, marks, bytearray(code.n * (code.k + 1)))
     passes(code, word, marks)
 
 

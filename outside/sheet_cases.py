@@ -1,4 +1,4 @@
-"""Makes crates/sheet_cases/stdin and stdout: sheets of every kind, and their reports by the reference.
+"""Makes crates/sheet_cases/stdin and stdout: sheets of every kind, and of each its report and its preview by the reference.
 
     python3 outside/sheet_cases.py SEED FOLDER
 """
@@ -99,6 +99,8 @@ def samples(rng):
     bad = sheet(*stripe(rng, small, range(4, 9)))
     yield changed(bad, 1, 2 << 28 | (bad[7] + 1) % 13)  # foreign, and two codewords would agree on the kept slots
     yield sheet(*stripe(rng, (1, 4, 8, 5), [0, 5, 6]))  # past the guarantee, and decided
+    yield sheet(*stripe(rng, (1, 14, 255, 1, 1), []))  # the longest preview
+    yield sheet(*stripe(rng, (1, 4, 25, 17), [0, 5, 10, 15]))  # grade 1 or 3 follows
 
 
 if __name__ == "__main__":
@@ -107,4 +109,4 @@ if __name__ == "__main__":
     with open(folder + "/stdin", "wb") as f:
         f.write(b"".join(len(row).to_bytes(2, "big") + row for row in rows))
     with open(folder + "/stdout", "w") as f:
-        f.write("".join(map(ref.report_text, rows)))
+        f.write("".join(ref.report_text(row) + ref.preview_text(row) for row in rows))
