@@ -6,6 +6,7 @@
 --   count-same, count-split            two tests that agree; two of which one holds everywhere
 --   count-some, count-one              one that passes, and the only one
 --   count-not                          those that pass, and those that do not
+--   count-less, count-and              a test that passes wherever another does; at one number more
 use mathlib.Core.Path.{_≡_, refl, sym, ap, ap₂, _∙_}
 use mathlib.Core.Logic.{_≢_}
 use mathlib.Core.Bool.{Bool, true, false, cond, not, _||_}
@@ -16,7 +17,7 @@ use native.Mathlib.Numerals.{add-one}
 use native.Mathlib.Omega.{arith}
 use lib.Dec.{T}
 use Rattle.algebra.specs.Sequence.{count}
-use Rattle.algebra.proofs.Booleans.{yes-true, no-false}
+use Rattle.algebra.proofs.Booleans.{yes-true, no-false, differ}
 
 module _ (t : ℕ → Bool) where
   pub count-zero : count t 0 ≡ 0
@@ -107,3 +108,27 @@ count-not t (suc n) = go (t n) (count-not t n)
     go : (b : Bool) → count (λ i. not (t i)) n + count t n ≡ n → cond (not b) 1 0 + count (λ i. not (t i)) n + (cond b 1 0 + count t n) ≡ suc n
     go true e = omega arith
     go false e = omega arith
+
+-- a test that passes wherever another does
+pub count-less : (t u : ℕ → Bool) (n : ℕ) → ((i : ℕ) → i < n → t i ≡ true → u i ≡ true) → count t n ≤ count u n
+unfolding count
+count-less t u zero h = omega arith
+count-less t u (suc n) h = go (t n) (u n) (h n (omega arith)) (count-less t u n (λ i l. h i (omega arith)))
+  where
+    go : (a b : Bool) → (a ≡ true → b ≡ true) → count t n ≤ count u n → cond {A = ℕ} a 1 0 + count t n ≤ cond b 1 0 + count u n
+    go true true f c = omega arith
+    go true false f c = differ (sym (f refl))
+    go false true f c = omega arith
+    go false false f c = omega arith
+
+-- one that passes besides at p alone
+pub count-and : (t u : ℕ → Bool) (n p : ℕ) → p < n → t p ≡ false → u p ≡ true → ((i : ℕ) → i ≢ p → u i ≡ t i) → count u n ≡ count t n + 1
+unfolding count
+count-and t u zero p h e f g = absurd (omega arith)
+count-and t u (suc n) p h e f g = go (ℕ-discrete n p) (λ l. count-and t u n p l e f g)
+  where
+    go : Dec (n ≡ p) → (p < n → count u n ≡ count t n + 1) → cond {A = ℕ} (u n) 1 0 + count u n ≡ cond (t n) 1 0 + count t n + 1
+    go (yes w) i =
+        let c = count-same u t n (λ j l. g j (λ z. omega arith)) in
+        rw (ap u w ∙ f, ap t w ∙ e) (omega (arith, c))
+    go (no d) i = rw (g n d) (omega (arith, i (omega (arith, d))))

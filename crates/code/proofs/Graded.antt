@@ -1,25 +1,29 @@
 -- The grade by its tests, and what it says of every word. Assumes nothing.
 --   four-of, of-four    the grade is 4 just where two messages' codewords agree on the kept slots
+--   four-is        just where the kept slots leave the message undecided
 --   grade-four     Grade-four of specs/Promise.antt
 --   grade-tells    Grade-tells of specs/Promise.antt
 --   grade-most     no grade is above 4
+--   first-most     the first broken group has a number of at most 255
 use mathlib.Core.Path.{_≡_, refl, sym, ap, _∙_}
 use mathlib.Core.Logic.{_≢_}
 use mathlib.Core.Bool.{Bool, true, false, cond}
 use mathlib.Core.List.{List, List-discrete}
-use Prim.Native.Nat.{ℕ, _≤_, _<_}
+use Prim.Native.Nat.{ℕ, zero, suc, _+_, _≤_, _<_}
 use native.Mathlib.Decide.{ℕ-discrete}
 use native.Mathlib.Omega.{arith}
+use borrow.Author.Tests.{eq-eqb, ne-eqb}
 use lib.Dec.{leb, leb→le, eqb, eqb→eq}
 use Rattle.algebra.specs.Sequence.{at, every}
-use Rattle.algebra.proofs.Booleans.{so}
+use Rattle.algebra.proofs.Booleans.{so, differ}
 use Rattle.code.specs.declared.Shape.{Shape}
 use Rattle.code.specs.Shape.{groups}
 use Rattle.code.specs.Codeword.{symbol, encoded, guarantee}
 use Rattle.code.specs.Decoding.{agrees, fits, undecided}
-use Rattle.code.specs.Erasure.{lost-number, stands, grade}
-use Rattle.code.specs.Laws.{Family}
+use Rattle.code.specs.Erasure.{lost-number, stands, first-from, first-broken, grade}
+use Rattle.code.specs.Laws.{Placed, Family}
 use Rattle.code.specs.Promise.{Ambiguous, Grade-four, Grade-tells}
+use Rattle.code.proofs.Bounds.{groups-most}
 use Rattle.code.proofs.Codewords.{message-is, is-message-of, at-encoded}
 use Rattle.code.proofs.Decoding.{fits-agrees, fits-intro}
 use Rattle.code.proofs.Fits.{fits-to, fits-of}
@@ -51,6 +55,13 @@ module _ (s : Shape) (ms : List ℕ) (F : Family s) where
       down false false true d e = absurd (omega arith)
       down false false false true e = refl
       down false false false false e = absurd (omega arith)
+
+  pub four-is : eqb (grade s ms) 4 ≡ undecided s ms
+  four-is = go (undecided s ms) refl
+    where
+      go : (b : Bool) → undecided s ms ≡ b → eqb (grade s ms) 4 ≡ b
+      go true e = eq-eqb (grade s ms) 4 (four-of (two-of s F ms e))
+      go false e = ne-eqb (grade s ms) 4 (λ g. differ (sym (undecided-of s F ms (of-four g)) ∙ e))
 
 pub grade-four : Grade-four
 unfolding Grade-four
@@ -121,3 +132,16 @@ grade-most s ms = go (eqb (lost-number s ms) 0) (every (stands s ms) (groups s))
     go false false true d = omega arith
     go false false false true = omega arith
     go false false false false = omega arith
+
+first-from-most : (s : Shape) (ms : List ℕ) (l j : ℕ) → j + l ≤ 255 → first-from l j s ms ≤ 255
+unfolding first-from
+first-from-most s ms zero j h = omega arith
+first-from-most s ms (suc l) j h = go (stands s ms j) (first-from-most s ms l (suc j) (omega arith))
+  where
+    go : (b : Bool) → first-from l (suc j) s ms ≤ 255 → cond b (first-from l (suc j) s ms) j ≤ 255
+    go true i = i
+    go false i = omega arith
+
+pub first-most : (s : Shape) → Placed s → (ms : List ℕ) → first-broken s ms ≤ 255
+unfolding first-broken
+first-most s P ms = first-from-most s ms (groups s) 0 (omega (arith, groups-most s P))
