@@ -1,3 +1,3 @@
 mod Grades
-mod Refusals
+pub mod Refusals
 pub mod Replies

@@ -1,9 +1,9 @@
 -- What the questions of the calls on marks say where they are passed. Assumes nothing.
 --   marks-passed    the refusal of the numbers is 0, and there is a mark for every slot
---   chain           grade's questions on lengths and marks, asked one after another
+--   after-lengths   questions asked after those of the lengths of marks and work
 --   handed          what holds where no question of grade refuses
 use mathlib.Core.Path.{_≡_, ap, _∙_}
-use mathlib.Core.Bool.{Bool, _&&_}
+use mathlib.Core.Bool.{_&&_}
 use mathlib.Core.List.{List}
 use Prim.Native.Nat.{ℕ, _+_, _*_}
 use lib.Dec.{eqb, leb, eqb→eq, leb→le}
@@ -13,9 +13,9 @@ use Rattle.code.specs.declared.Shape.{Shape}
 use Rattle.code.specs.Question.{ask, or-ask}
 use Rattle.code.specs.Work.{used}
 use Rattle.code.specs.Laws.{Decodable}
-use Rattle.code.proofs.Questions.{asked, ask-then, ask-and, or-ask-passed}
+use Rattle.code.proofs.Questions.{asked, ask-then, or-ask-passed}
 use Rattle.grading.specs.Grade.{marks-refusal, grade-refusal}
-use Rattle.grading.specs.Step.{Marked}
+use Rattle.grading.specs.Step.{lengths-refusal, Marked}
 
 pub marks-passed : (n : ℕ) (s : Shape) (ms : List ℕ) → marks-refusal n s ms ≡ 0 → (n ≡ 0) × (length ms ≡ s .n)
 unfolding marks-refusal
@@ -23,13 +23,11 @@ marks-passed n s ms e =
     let o = or-ask-passed n _ e in
     (o .0, eqb→eq (length ms) (s .n) (asked (eqb (length ms) (s .n)) 4 _ (o .1) .0))
 
--- x and y are what is answered so far after each question on a length
-pub chain : (n x y : ℕ) (m w b : Bool) → x ≡ or-ask n (ask m 5 0) → y ≡ or-ask x (ask w 5 0)
-    → or-ask y (ask b 8 0) ≡ or-ask n (ask (m && w) 5 (ask b 8 0))
-chain n x y m w b d e =
-    let after : ℕ = ask b 8 0 in
-    ap (λ a. or-ask a after) e ∙ ask-then x w 4 after ∙ ap (λ a. or-ask a (ask w 5 after)) d ∙ ask-then n m 4 (ask w 5 after)
-    ∙ ap (or-ask n) (ask-and m w 5 after)
+-- x is what is answered so far
+pub after-lengths : (n : ℕ) (s : Shape) (m b x rest : ℕ) → x ≡ lengths-refusal n s m b
+    → or-ask x rest ≡ or-ask n (ask (eqb m (s .n) && leb (used s) b) 5 rest)
+unfolding lengths-refusal
+after-lengths n s m b x rest e = ap (λ a. or-ask a rest) e ∙ ask-then n (eqb m (s .n) && leb (used s) b) 4 rest
 
 pub handed : (n : ℕ) (s : Shape) (ms : List ℕ) (b : ℕ) → (n ≡ 0 → Decodable s) → grade-refusal n s ms b ≡ 0 → Marked s ms b
 unfolding grade-refusal used

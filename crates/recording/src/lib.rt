@@ -96,17 +96,15 @@ pub fn record_with(
         };
     }
     let verdict = decode::settle(shape, word, marks, message, work);
-    let lost = losses::count_lost(shape, marks);
     let guarantee = losses::guarantee_of(shape);
-    let grade = grading::grade_in(shape, marks, work);
-    let first = losses::first_group(shape, marks);
+    let seen = grading::graded_in(shape, marks, work);
     let outcome = outcome_of(verdict);
     let record = StripeRecord {
         code,
-        lost,
+        lost: seen.lost,
         guarantee,
-        grade,
-        first,
+        grade: seen.grade,
+        first: seen.first,
         outcome,
     };
     Recorded { refusal: 0, record }

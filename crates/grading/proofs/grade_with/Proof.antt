@@ -1,35 +1,62 @@
 use borrow.Author.Needs.{needs}
-use mathlib.Core.Path.{sym, _∙_}
+use mathlib.Core.Path.{_≡_, sym, ap, _∙_}
 use lib.ListN.{length}
-use Rattle.grading.proofs.Refusals.{handed}
-use Rattle.grading.proofs.Replies.{refused, graded}
+use Rattle.algebra.specs.Sequence.{all-below}
+use Rattle.code.specs.Question.{ask, or-ask}
+use Rattle.grading.specs.Grade.{grade-refusal}
+use Rattle.grading.proofs.Refusals.{after-lengths, handed}
+use Rattle.grading.proofs.Replies.{refused, answers-grade}
 use Rattle.grading.proofs.grade_with.Statement.{statement}
 use Rattle.grading.proofs.grade_with.Tie as tie
 
-grade-refusal-requires : tie.Need-grade-refusal-requires
-grade-refusal-requires c κs = search needs
+lengths-refusal-requires : tie.Need-lengths-refusal-requires
+lengths-refusal-requires c κs = search needs
+
+all-below-requires : tie.Need-all-below-requires
+all-below-requires c κs = search needs
+
+ask-requires : tie.Need-ask-requires
+ask-requires c κs = search needs
+
+-- what was asked
+questions : (t : tie.After-ask) → let a = t .before .before .before .before .before .args in t .ask .result ≡ grade-refusal (a .refusal) (a .shape) (a .marks .now) (length (a .work .now))
+unfolding grade-refusal
+questions t =
+    let a = t .before .before .before .before .before .args in
+    let l = t .before .before .lengths-refusal in
+    t .ask .ensures ∙ ap (λ b. or-ask (l .result) (ask b 8 0)) (t .before .all-below .ensures)
+    ∙ after-lengths (a .refusal) (a .shape) (length (a .marks .now)) (length (a .work .now)) (l .result) (ask (all-below 2 (a .marks .now)) 8 0) (l .ensures)
 
 returns : tie.Need-returns
 returns c =
-    let a = c .before .before .before .before .args in
-    refused (a .refusal) (a .shape) (a .marks .now) (a .work .now) (c .before .grade-refusal .result) (c .before .grade-refusal .ensures) (c .if1 .taken)
+    let a = c .before .before .before .before .before .before .args in
+    refused (a .refusal) (a .shape) (a .marks .now) (a .work .now) (c .before .ask .result) (questions (c .before)) (c .if1 .taken)
 
-grade-in-requires : tie.Need-grade-in-requires
-grade-in-requires c κs =
-    let s = c .before .before .before .before .before in
+graded-in-requires : tie.Need-graded-in-requires
+graded-in-requires c κs =
+    let s = c .before .before .before .before .before .before .before in
     let a = s .args in
-    handed (a .refusal) (a .shape) (a .marks .now) (length (a .work .now)) (s .pre) (sym (c .before .before .grade-refusal .ensures) ∙ c .before .if1 .left)
+    handed (a .refusal) (a .shape) (a .marks .now) (length (a .work .now)) (s .pre) (sym (questions (c .before .before)) ∙ c .before .if1 .left)
 
 same-length : tie.Need-same-length
 same-length c = search needs
 
 returns-2 : tie.Need-returns-2
 returns-2 c =
-    let a = c .before .before .before .before .before .before .before .before .args in
-    let t = c .before .before .grade-in in
-    graded (a .refusal) (a .shape) (a .marks .now) (a .work .now) (t .last .1 .1 .0)
-    (sym (c .before .before .before .before .before .grade-refusal .ensures) ∙ c .before .before .before .before .if1 .left) (t .result) (t .ensures .0) (t .ensures .1)
+    let q = c .before .before .before .before .before in
+    let a = q .before .before .before .before .before .args in
+    let t = c .before .before .graded-in in
+    answers-grade (a .refusal) (a .shape) (a .marks .now) (a .work .now) (t .last .1 .1 .0)
+    (sym (questions q) ∙ c .before .before .before .before .if1 .left) (t .result) (t .ensures .0) (t .ensures .1)
 
 pub grade-with-spec : {M : Type 1} → statement M
 grade-with-spec =
-    tie.close (tie.spec grade-refusal-requires returns grade-in-requires same-length returns-2)
+    tie.close
+    (tie.spec
+    lengths-refusal-requires
+    all-below-requires
+    ask-requires
+    returns
+    graded-in-requires
+    same-length
+    returns-2)

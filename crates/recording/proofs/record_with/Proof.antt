@@ -7,7 +7,7 @@ use Rattle.code.proofs.Working.{cleared-twice}
 use Rattle.decode.specs.Step.{Handed}
 use Rattle.decode.proofs.Refusals.{handed}
 use Rattle.decode.proofs.Replies.{is-verdict}
-use Rattle.recording.proofs.Records.{record-refused, record-filled}
+use Rattle.recording.proofs.Records.{record-refused, numbers-graded, record-filled}
 use Rattle.recording.proofs.record_with.Statement.{statement}
 use Rattle.recording.proofs.record_with.Tie as tie
 
@@ -33,24 +33,18 @@ returns c =
 settle-requires : tie.Need-settle-requires
 settle-requires c κs = given (c .before .before)
 
-count-lost-requires : tie.Need-count-lost-requires
-count-lost-requires c κs = let H = given (c .before .before .before .before .before .before .before) in (H .shape .plain .family .placed, H .marks-size)
-
 guarantee-of-requires : tie.Need-guarantee-of-requires
-guarantee-of-requires c κs = let L = given (c .before .before .before .before .before .before .before .before) .shape .plain in (L .family, L .second-none)
+guarantee-of-requires c κs = let L = given (c .before .before .before .before .before .before .before) .shape .plain in (L .family, L .second-none)
 
-grade-in-requires : tie.Need-grade-in-requires
-grade-in-requires c κs =
-    let H = given (c .before .before .before .before .before .before .before .before .before .before) in
-    record { shape = H .shape; marks-size = H .marks-size; work-size = omega (arith, H .work-size, c .before .before .before .before .before .before .before .settle .kept .1 .1 .1 .1 .0) }
-
-first-group-requires : tie.Need-first-group-requires
-first-group-requires c κs = let H = given (c .before .before .before .before .before .before .before .before .before .before .before .before .before) in (H .shape .plain .family .placed, H .marks-size)
+graded-in-requires : tie.Need-graded-in-requires
+graded-in-requires c κs =
+    let H = given (c .before .before .before .before .before .before .before .before .before) in
+    record { shape = H .shape; marks-size = H .marks-size; work-size = omega (arith, H .work-size, c .before .before .before .before .before .before .settle .kept .1 .1 .1 .1 .0) }
 
 outcome-of-requires : tie.Need-outcome-of-requires
 outcome-of-requires c κs =
-    let a = c .before .before .before .before .before .before .before .before .before .before .before .before .before .before .before .before .before .before .before .before .args in
-    let t = c .before .before .before .before .before .before .before .before .before .before .before .settle in
+    let a = c .before .before .before .before .before .before .before .before .before .before .before .before .before .before .before .before .before .before .args in
+    let t = c .before .before .before .before .before .before .before .before .before .settle in
     is-verdict (a .shape) (a .word .now) (a .marks .now) (a .message .now) (t .last .1 .1 .1 .0) (t .result) (t .ensures .0)
 
 same-length : tie.Need-same-length
@@ -61,21 +55,15 @@ same-length-2 c = search needs
 
 returns-2 : tie.Need-returns-2
 returns-2 c =
-    let s = c .before .before .before .before .before .before .before .before .before .before .before .before .before .before .before in
+    let s = c .before .before .before .before .before .before .before .before .before .before .before .before .before in
     let a = s .before .before .before .before .before .before .args in
-    let t = c .before .before .before .before .before .before .before .before .before .before .before .before .settle in
-    let g = c .before .before .before .before .grade-in in
+    let t = c .before .before .before .before .before .before .before .before .before .before .settle in
+    let g = c .before .before .before .graded-in in
     record-filled (a .refusal) (a .shape) (a .word .now) (a .marks .now) (a .message .now) (a .code) (t .last .1 .1 .1 .0) (a .work .now)
     (g .last .1 .1 .0) (sym (s .before .decode-refusal .ensures) ∙ s .if1 .left)
     (record {
       refusal = refl;
-      numbers = record {
-        code = refl;
-        lost = c .before .before .before .before .before .before .before .count-lost .ensures;
-        guarantee-is = c .before .before .before .before .before .before .guarantee-of .ensures;
-        grade-is = g .ensures .0;
-        first = c .before .first-group .ensures;
-      };
+      numbers = numbers-graded (a .code) (a .shape) (a .marks .now) (g .result) (c .before .before .before .before .before .guarantee-of .result) (c .outcome-of .result) (g .ensures .0) (c .before .before .before .before .before .guarantee-of .ensures);
       verdict = rw (c .outcome-of .ensures) (t .ensures .0);
       work = g .ensures .1 ∙ ap (cleared (a .shape)) (t .ensures .1) ∙ cleared-twice (a .shape) (a .work .now);
     })
@@ -88,10 +76,8 @@ record-with-spec =
     blank-record-requires
     returns
     settle-requires
-    count-lost-requires
     guarantee-of-requires
-    grade-in-requires
-    first-group-requires
+    graded-in-requires
     outcome-of-requires
     same-length
     same-length-2
