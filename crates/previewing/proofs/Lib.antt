@@ -1,0 +1,4 @@
+mod Marking
+mod Losing
+mod Replies
+mod Promises
