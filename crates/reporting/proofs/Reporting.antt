@@ -3,24 +3,21 @@
 --   drawn                          an accepted stripe has a filled record
 --   small-record, record-lines     the numbers of a record, and its lines
 --   decodes                        an accepted sheet's stripe passes decode's questions
---   few-slots, few-symbols, read-decodes, read-says    what follows where the reader did not refuse
+--   read-decodes, read-says        what follows where the reader did not refuse
 --   says-refused, says-stripe, says-report    the report, from its parts
 use mathlib.Core.Path.{_≡_, sym, ap, ap₂, _∙_, subst}
 use mathlib.Core.Logic.{_≢_}
-use mathlib.Core.List.{List, _++_}
-use Prim.Native.Nat.{ℕ, _+_, _*_, _≤_, _<_}
-use native.Mathlib.Nat.{zero-add}
+use mathlib.Core.List.{List}
+use Prim.Native.Nat.{ℕ, _≤_, _<_}
 use native.Mathlib.Omega.{arith}
-use lib.ListN.{length, take, drop}
+use lib.ListN.{length, take}
 use Rattle.algebra.proofs.Booleans.{yes-true}
 use Rattle.code.specs.declared.Code.{Code}
-use Rattle.code.specs.declared.Shape.{Shape}
 use Rattle.code.specs.Family.{single, code-refusal}
-use Rattle.code.specs.Laws.{Plain}
 use Rattle.code.specs.declared.Answer.{Answer}
 use Rattle.code.proofs.Questions.{or-ask-passed}
 use Rattle.code.proofs.Accepted.{plain-of}
-use Rattle.code.proofs.Bounds.{n-most, k-most, work-most}
+use Rattle.code.proofs.Bounds.{work-most}
 use Rattle.decode.specs.Decode.{decode-refusal}
 use Rattle.recording.specs.Recording.{outcome-number, Numbers, Filled, Record-as, Record-says}
 use Rattle.recording.specs.declared.Outcome.{Outcome}
@@ -29,13 +26,13 @@ use Rattle.recording.specs.declared.StripeRecord.{StripeRecord}
 use Rattle.recording.specs.declared.Recorded.{Recorded}
 use Rattle.decode.proofs.Refusals.{none}
 use Rattle.sheet.specs.Sheet.{code-in, symbols-in, marks-in}
-use Rattle.sheet.specs.Calls.{sheet-refusal, Read-says}
+use Rattle.sheet.specs.Calls.{sheet-refusal}
 use Rattle.sheet.specs.declared.Sheet.{Sheet}
 use Rattle.sheet.proofs.Accepted.{Good-sheet, good-sheet}
-use Rattle.sheet.proofs.Reading.{told-refusal, told-code, told-word, told-marks}
+use Rattle.sheet.proofs.Reading.{Told}
 use Rattle.sheet.proofs.WriteBack.{stripe-again}
-use Rattle.text.specs.Text.{refused-line, stripe-lines, written-at, Small, Puts}
-use Rattle.text.proofs.Puts.{puts-as}
+use Rattle.text.specs.Text.{refused-line, stripe-lines, Small, Puts}
+use Rattle.text.proofs.Puts.{puts-as, front-end, front-text}
 use Rattle.reporting.specs.Report.{stripe-report, refused, stripe, Report-says, written}
 use Rattle.reporting.specs.Step.{Stripe-says, Text-says}
 use Rattle.reporting.proofs.Bounds.{small-numbers}
@@ -79,15 +76,11 @@ module _ (c : Code) (ms : List ℕ) (r : StripeRecord) (n : Numbers c (single c)
   unfolding stripe-report
   record-lines v w xs e = cc (n .lost, n .guarantee-is, n .grade-is, n .first)
 
--- so much work is enough for every plain shape
-enough : (s : Shape) → Plain s → (b : ℕ) → 61455 ≤ b → s .n * (s .k + 1) ≤ b
-enough s L b h = omega (arith, work-most s L)
-
 pub decodes : (s : List ℕ) (a b : ℕ) → Good-sheet s → a ≡ code-in s .k → 61455 ≤ b → refusal-of (code-in s) (symbols-in s) (marks-in s) a b ≡ 0
 decodes s a b g e m =
     let t = stripe-again s g in
     let h = single (code-in s) in
-    none (code-refusal (code-in s)) h (symbols-in s) (marks-in s) a b (t .code) (t .word) (t .marks) e (enough h (plain-of (code-in s) (t .code)) b m) (yes-true _ (t .marked)) (yes-true _ (t .kept))
+    none (code-refusal (code-in s)) h (symbols-in s) (marks-in s) a b (t .code) (t .word) (t .marks) e (omega (arith, work-most h (plain-of (code-in s) (t .code)))) (yes-true _ (t .marked)) (yes-true _ (t .kept))
 
 module _ (s t z : List ℕ) (x : ℕ) where
   pub says-refused : (m : ℕ) → m ≡ sheet-refusal s → m ≢ 0 → Puts (refused-line m) t 0 z x → x ≤ 1032 → Text-says s t z x
@@ -101,39 +94,15 @@ module _ (s t z : List ℕ) (x : ℕ) where
       record { bytes = stripe-report (code-in s) (marks-in s) (q .outcome) (q .message); report = stripe i (q .verdict); puts = q .puts; most = q .most }
 
   pub says-report : (a : Answer) → 1032 ≤ length t → a .refusal ≡ 0 → a .value ≡ x → Text-says s t z x → Report-says s t z a
-  unfolding written-at
-  says-report a h r v p =
-      let n : 0 + length (p .bytes) ≡ length (p .bytes) = zero-add (length (p .bytes)) in
-      written h (p .report) r (v ∙ p .puts .end ∙ n) (p .puts .text ∙ ap (λ m. p .bytes ++ drop m t) n)
+  says-report a h r v p = written h (p .report) r (v ∙ front-end (p .puts)) (front-text (p .puts))
 
 -- what follows where the reader did not refuse
-module _ (s a b d e : List ℕ) (x : Sheet) (h : 255 ≤ length a) (g : 255 ≤ length d) (r : Read-says s a b d e x) (i : x .refusal ≡ 0) where
-  passed : sheet-refusal s ≡ 0
-  passed = sym (told-refusal s a b d e x h g r) ∙ i
-
-  code-is : x .code ≡ code-in s
-  code-is = told-code s a b d e x h g r passed
-
-  accepted : code-refusal (x .code) ≡ 0
-  accepted = ap code-refusal code-is ∙ good-sheet s passed .code
-
-  pub few-slots : x .code .n ≤ 255
-  few-slots = n-most (single (x .code)) (plain-of (x .code) accepted .family .placed)
-
-  pub few-symbols : x .code .k ≤ 240
-  few-symbols = k-most (single (x .code)) (plain-of (x .code) accepted)
-
-  word-is : take (x .code .n) b ≡ symbols-in s
-  word-is = ap (λ c. take (c .n) b) code-is ∙ told-word s a b d e x h g r passed
-
-  marks-are : take (x .code .n) e ≡ marks-in s
-  marks-are = ap (λ c. take (c .n) e) code-is ∙ told-marks s a b d e x h g r passed
-
+module _ {s b e : List ℕ} {x : Sheet} (t : Told s b e x) where
   pub read-decodes : (l w : ℕ) → l ≡ x .code .k → 61455 ≤ w → refusal-of (x .code) (take (x .code .n) b) (take (x .code .n) e) l w ≡ 0
   read-decodes l w k m =
-      subst (λ c. refusal-of c (take (x .code .n) b) (take (x .code .n) e) l w ≡ 0) (sym code-is)
-      (ap₂ (λ ws ms. refusal-of (code-in s) ws ms l w) word-is marks-are
-      ∙ decodes s l w (good-sheet s passed) (k ∙ ap (λ c. c .k) code-is) m)
+      subst (λ c. refusal-of c (take (x .code .n) b) (take (x .code .n) e) l w ≡ 0) (sym (t .code-is))
+      (ap₂ (λ ws ms. refusal-of (code-in s) ws ms l w) (t .word-is) (t .marks-are)
+      ∙ decodes s l w (good-sheet s (t .passed)) (k ∙ ap (λ c. c .k) (t .code-is)) m)
 
-  pub read-says : (t z : List ℕ) (y : ℕ) → Stripe-says (x .code) (take (x .code .n) b) (take (x .code .n) e) t z y → Text-says s t z y
-  read-says t z y p = says-stripe s t z y (x .code) (take (x .code .n) b) (take (x .code .n) e) passed code-is word-is marks-are p
+  pub read-says : (u z : List ℕ) (y : ℕ) → Stripe-says (x .code) (take (x .code .n) b) (take (x .code .n) e) u z y → Text-says s u z y
+  read-says u z y p = says-stripe s u z y (x .code) (take (x .code .n) b) (take (x .code .n) e) (t .passed) (t .code-is) (t .word-is) (t .marks-are) p

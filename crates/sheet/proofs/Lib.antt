@@ -1,4 +1,5 @@
 pub mod Refusals
+pub mod Bounds
 pub mod Accepted
 pub mod Order
 pub mod Writing

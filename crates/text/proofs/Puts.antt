@@ -1,6 +1,7 @@
 -- Text written piece by piece, and the digits of numerals. Assumes nothing.
 --   puts-then, puts-as               one piece behind another; an equal piece
 --   puts-none, puts-laid, puts-byte  nothing; a copied piece; one byte
+--   front-end, front-text, front-bytes    what was put in front of a text
 --   puts-no-symbols, puts-symbol, puts-symbols    the symbols of a message
 --   numeral-1, numeral-2, numeral-3  numerals of one, two and three digits
 use mathlib.Core.Path.{_≡_, refl, sym, ap, ap₂, _∙_, subst}
@@ -66,6 +67,17 @@ pub puts-byte : (t : List ℕ) (a b : ℕ) → a < length t → Puts (b ∷ []) 
 unfolding written-at
 puts-byte t a b h =
     record { end = refl; text = set-split t a b h ∙ sym (append-snoc (take a t) b (drop (suc a) t)) ∙ ap (λ n. take a t ++ (b ∷ []) ++ drop n t) (sym (add-one a)) }
+
+module _ {bs t z : List ℕ} {x : ℕ} (p : Puts bs t 0 z x) where
+  pub front-end : x ≡ length bs
+  front-end = p .end ∙ zero-add (length bs)
+
+  pub front-text : z ≡ bs ++ drop (length bs) t
+  unfolding written-at
+  front-text = p .text ∙ ap (λ n. bs ++ drop n t) (zero-add (length bs))
+
+  pub front-bytes : take x z ≡ bs
+  front-bytes = ap (take x) front-text ∙ take-at bs (drop (length bs) t) x (sym front-end)
 
 one : (f n : ℕ) → n < 10 → numeral-from (suc f) n ≡ (48 + n) ∷ []
 unfolding numeral-from

@@ -4,6 +4,7 @@
 --   spaced n           == one space and the numeral of n
 --   named w n          == a word, one space and the numeral of n
 --   wiring-mark w      == the wiring, under wiring 1 alone
+--   grade-end g f      == the end of a line: the grade and the first broken group
 --   refused-line n, code-line c, losses-line l s g f, message-line xs    the lines, each ended by a line feed
 --   outcome-line v xs  == the third line: the message xs for the outcome 0, else the refusal v
 --   stripe-lines c l s g f v xs == the three lines of a stripe
@@ -50,8 +51,11 @@ wiring-mark w = cond (eqb w 1) (spaced w) []
 unfoldable pub code-line : Code → List ℕ
 code-line c = named "code" (c .field) ++ spaced (c .r) ++ spaced (c .n) ++ spaced (c .k) ++ wiring-mark (c .wiring) ++ ascii "\n"
 
+unfoldable pub grade-end : (grade first : ℕ) → List ℕ
+grade-end g f = named " grade" g ++ named " first" f ++ ascii "\n"
+
 unfoldable pub losses-line : (lost sure grade first : ℕ) → List ℕ
-losses-line l s g f = named "lost" l ++ named " sure" s ++ named " grade" g ++ named " first" f ++ ascii "\n"
+losses-line l s g f = named "lost" l ++ named " sure" s ++ grade-end g f
 
 unfoldable pub message-line : List ℕ → List ℕ
 message-line xs = ascii "message" ++ all-spaced xs ++ ascii "\n"

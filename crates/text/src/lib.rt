@@ -2,7 +2,7 @@
 ghost use mathlib.Core.List.{[], _∷_, _++_};
 ghost use Prim.Native.Nat.{_+_, _*_, _≤_, _<_};
 ghost use lib.ListN.{length};
-ghost use Rattle.text.specs.Text.{numeral, spaced, all-spaced, refused-line, wiring-mark, code-line, losses-line, message-line, stripe-lines, Small, Puts};
+ghost use Rattle.text.specs.Text.{numeral, spaced, all-spaced, refused-line, wiring-mark, code-line, grade-end, losses-line, message-line, stripe-lines, Small, Puts};
 use code::Code;
 
 // Copies bytes into the text: answers the place behind them.
@@ -92,6 +92,16 @@ pub fn put_code(text: &mut [u8], at: usize, code: Code) -> usize
     put(text, next, b"\n")
 }
 
+// Puts the end of a line: the grade and the first broken group.
+pub fn put_grade(text: &mut [u8], at: usize, grade: u32, first: u32) -> usize
+    requires { ⌜ (at + 21 ≤ length (now text)) × (grade < 1000) × (first < 1000) ⌝ }
+    ensures { λ x. ⌜ Puts (grade-end grade first) (now (text .entry)) at (now (text .exit)) x × (x ≤ at + 21) ⌝ }
+{
+    let mut next = put_named(text, at, b" grade", grade);
+    next = put_named(text, next, b" first", first);
+    put(text, next, b"\n")
+}
+
 // Puts the line of the losses.
 pub fn put_losses(text: &mut [u8], at: usize, lost: u32, sure: u32, grade: u32, first: u32) -> usize
     requires { ⌜ (at + 38 ≤ length (now text)) × (lost < 1000) × (sure < 1000) × (grade < 1000) × (first < 1000) ⌝ }
@@ -99,9 +109,7 @@ pub fn put_losses(text: &mut [u8], at: usize, lost: u32, sure: u32, grade: u32, 
 {
     let mut next = put_named(text, at, b"lost", lost);
     next = put_named(text, next, b" sure", sure);
-    next = put_named(text, next, b" grade", grade);
-    next = put_named(text, next, b" first", first);
-    put(text, next, b"\n")
+    put_grade(text, next, grade, first)
 }
 
 // Puts the symbols of a message, a space before each.

@@ -18,23 +18,8 @@ slice-aggregate-put-named-2 c = search needs
 put-named-requires-2 : tie.Need-put-named-requires-2
 put-named-requires-2 c κs = search needs
 
-slice-aggregate-put-named-3 : tie.Need-slice-aggregate-put-named-3
-slice-aggregate-put-named-3 c = search needs
-
-put-named-requires-3 : tie.Need-put-named-requires-3
-put-named-requires-3 c κs = search needs
-
-slice-aggregate-put-named-4 : tie.Need-slice-aggregate-put-named-4
-slice-aggregate-put-named-4 c = search needs
-
-put-named-requires-4 : tie.Need-put-named-requires-4
-put-named-requires-4 c κs = search needs
-
-slice-aggregate-put : tie.Need-slice-aggregate-put
-slice-aggregate-put c = search needs
-
-put-requires : tie.Need-put-requires
-put-requires c κs = search needs
+put-grade-requires : tie.Need-put-grade-requires
+put-grade-requires c κs = search needs
 
 same-length : tie.Need-same-length
 same-length c = search needs
@@ -42,15 +27,11 @@ same-length c = search needs
 returns : tie.Need-returns
 unfolding losses-line named ascii
 returns c =
-    let p = c .before .before .before .before .before .before .before .before .before .before .before .before .before .before .before .before .before .before .before .before .before .before .put-named .ensures in
-    let q = c .before .before .before .before .before .before .before .before .before .before .before .before .before .before .before .before .before .put-named2 .ensures in
-    let r = c .before .before .before .before .before .before .before .before .before .before .before .before .put-named3 .ensures in
-    let s = c .before .before .before .before .before .before .before .put-named4 .ensures in
-    let t = c .before .before .put .ensures in
-    let h = c .before .before .before .before .before .before .before .before .before .before .before .before .before .before .before .before .before .before .before .before .before .before .before .before .before .before .pre .0 in (
-      puts-then (puts-then (puts-then (puts-then (p .0) (q .0) (omega arith)) (r .0) (omega arith)) (s .0) (omega arith)) t (omega arith),
-      omega (arith, p .1, q .1, r .1, s .1, t .end),
-    )
+    let p = c .before .before .before .before .before .before .before .before .before .before .before .put-named .ensures in
+    let q = c .before .before .before .before .before .before .put-named2 .ensures in
+    let r = c .before .before .put-grade .ensures in
+    let h = c .before .before .before .before .before .before .before .before .before .before .before .before .before .before .before .pre .0 in
+    (puts-then (puts-then (p .0) (q .0) (omega arith)) (r .0) (omega arith), omega (arith, p .1, q .1, r .1))
 
 pub put-losses-spec : {M : Type 1} → statement M
 put-losses-spec =
@@ -60,11 +41,6 @@ put-losses-spec =
     put-named-requires
     slice-aggregate-put-named-2
     put-named-requires-2
-    slice-aggregate-put-named-3
-    put-named-requires-3
-    slice-aggregate-put-named-4
-    put-named-requires-4
-    slice-aggregate-put
-    put-requires
+    put-grade-requires
     same-length
     returns)

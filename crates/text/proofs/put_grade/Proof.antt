@@ -1,0 +1,50 @@
+-- `put_grade` meets its contract. Assumes nothing.
+use native.Mathlib.Omega.{arith}
+use Rattle.text.proofs.Puts.{puts-then}
+use Rattle.text.specs.Text.{ascii, named, grade-end}
+use borrow.Author.Needs.{needs}
+use Rattle.text.proofs.put_grade.Statement.{statement}
+use Rattle.text.proofs.put_grade.Tie as tie
+
+slice-aggregate-put-named : tie.Need-slice-aggregate-put-named
+slice-aggregate-put-named c = search needs
+
+put-named-requires : tie.Need-put-named-requires
+put-named-requires c κs = search needs
+
+slice-aggregate-put-named-2 : tie.Need-slice-aggregate-put-named-2
+slice-aggregate-put-named-2 c = search needs
+
+put-named-requires-2 : tie.Need-put-named-requires-2
+put-named-requires-2 c κs = search needs
+
+slice-aggregate-put : tie.Need-slice-aggregate-put
+slice-aggregate-put c = search needs
+
+put-requires : tie.Need-put-requires
+put-requires c κs = search needs
+
+same-length : tie.Need-same-length
+same-length c = search needs
+
+returns : tie.Need-returns
+unfolding grade-end named ascii
+returns c =
+    let p = c .before .before .before .before .before .before .before .before .before .before .before .before .put-named .ensures in
+    let q = c .before .before .before .before .before .before .before .put-named2 .ensures in
+    let r = c .before .before .put .ensures in
+    let h = c .before .before .before .before .before .before .before .before .before .before .before .before .before .before .before .before .pre .0 in
+    (puts-then (puts-then (p .0) (q .0) (omega arith)) r (omega arith), omega (arith, p .1, q .1, r .end))
+
+pub put-grade-spec : {M : Type 1} → statement M
+put-grade-spec =
+    tie.close
+    (tie.spec
+    slice-aggregate-put-named
+    put-named-requires
+    slice-aggregate-put-named-2
+    put-named-requires-2
+    slice-aggregate-put
+    put-requires
+    same-length
+    returns)
