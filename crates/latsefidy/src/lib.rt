@@ -10,9 +10,11 @@ ghost use Rattle.grading.specs.Grade.{Grade-says};
 ghost use Rattle.decode.specs.Decode.{Decode-says};
 ghost use Rattle.sheet.specs.Calls.{Write-says};
 ghost use Rattle.reporting.specs.Report.{Report-says};
+ghost use Rattle.preview_sheet.specs.Text.{Sheet-preview-says};
 ghost use Rattle.binding.specs.Pack.{unpacked};
 ghost use Rattle.binding.specs.Fill.{Weights-fill};
 ghost use Rattle.record_binding.specs.Record.{Record-fills};
+ghost use Rattle.preview_binding.specs.Preview.{Preview-fills};
 ghost use Rattle.sheet_binding.specs.Sheet.{Read-fills};
 use binding::packed;
 use code::Code;
@@ -231,6 +233,36 @@ pub extern "C" fn latsefidy_grade(
     ))
 }
 
+// Writes what would follow the loss of a slot.
+#[no_mangle]
+pub extern "C" fn latsefidy_preview(
+    field: u32,
+    r: u32,
+    n: u32,
+    k: u32,
+    wiring: u32,
+    slot: u32,
+    marks: &[u8],
+    work: &mut [u8],
+    preview: &mut [u32],
+) -> u32
+    ensures { λ x. ⌜ Preview-fills (code-of field r n k wiring) slot (now (marks .entry)) x (now (work .entry)) (now (work .exit)) (now (preview .entry)) (now (preview .exit)) ⌝ }
+{
+    preview_binding::preview_into(
+        Code {
+            field,
+            r,
+            n,
+            k,
+            wiring,
+        },
+        slot,
+        marks,
+        work,
+        preview,
+    )
+}
+
 // Decodes a stripe and writes its record.
 #[no_mangle]
 pub extern "C" fn latsefidy_record(
@@ -310,4 +342,12 @@ pub extern "C" fn latsefidy_report(input: &[u8], text: &mut [u8]) -> u64
     ensures { λ x. ⌜ Report-says (take 1032 (now (input .entry))) (now (text .entry)) (now (text .exit)) (unpacked x) ⌝ }
 {
     packed(reporting::report_front(input, text))
+}
+
+// Writes the preview of a sheet, of which at most the first 1,032 bytes are judged.
+#[no_mangle]
+pub extern "C" fn latsefidy_preview_sheet(input: &[u8], text: &mut [u8]) -> u64
+    ensures { λ x. ⌜ Sheet-preview-says (take 1032 (now (input .entry))) (now (text .entry)) (now (text .exit)) (unpacked x) ⌝ }
+{
+    packed(preview_sheet::preview_front(input, text))
 }
