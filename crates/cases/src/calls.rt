@@ -121,3 +121,15 @@ pub fn decodes(code: Code, word: &[u8], marks: &[u8], used: usize) {
     let grade = grading::grade(code, marks, front(&mut work, used));
     put_decoded(code, grade, refusal, message);
 }
+
+// Previews the loss of a slot, with so many bytes of work.
+pub fn previews(code: Code, slot: u32, marks: &[u8], used: usize) {
+    let mut work = work_room();
+    let seen = previewing::preview(code, slot, marks, front(&mut work, used));
+    head(b"preview ", code);
+    show::put(seen.refusal);
+    show::put(seen.lost);
+    show::put(seen.grade);
+    show::put(seen.first);
+    io::write_all(1, b"\n");
+}

@@ -49,6 +49,18 @@ fn classroom_losses() {
     loses(b"\x00\x00\x00\x00\x02\x00\x00\x00\x00");
 }
 
+// Previews of slots: kept ones that every grade follows, one that is lost already, and 7 before 8.
+fn classroom_previews() {
+    let code = calls::class();
+    calls::previews(code, 7, b"\x00\x00\x00\x00\x00\x00\x00\x00\x00", 45);
+    calls::previews(code, 4, b"\x01\x01\x01\x01\x00\x00\x00\x00\x00", 45);
+    calls::previews(code, 0, b"\x01\x01\x01\x01\x00\x00\x00\x00\x00", 45);
+    calls::previews(code, 8, b"\x00\x00\x01\x00\x00\x01\x01\x01\x00", 45);
+    calls::previews(code, 8, b"\x00\x00\x00\x00\x01\x01\x01\x01\x00", 45);
+    calls::previews(code, 9, b"\x00\x00\x00\x00\x02\x00\x00\x00\x00", 45);
+    calls::previews(code, 3, b"\x00\x00\x00\x00\x02\x00\x00\x00\x00", 45);
+}
+
 // Encodes four ones for a code.
 fn asks(field: u32, r: u32, n: u32, k: u32, wiring: u32) {
     let code = calls::code_of(field, r, n, k, wiring);
@@ -106,6 +118,7 @@ fn main() {
     classroom_encoding();
     classroom_repair();
     classroom_losses();
+    classroom_previews();
     questions();
     short_questions();
     other_codes();

@@ -49,6 +49,17 @@ fn loses(code: Code, word: &[u8]) {
     decodes(code, word, b"\x01\x01\x01\x00\x00\x00\x00\x00\x00\x01\x01");
 }
 
+// The other slot of the last group, and one loss more than the guarantee.
+fn previews(code: Code) {
+    calls::previews(
+        code,
+        10,
+        b"\x01\x00\x00\x00\x00\x00\x00\x00\x00\x01\x00",
+        66,
+    );
+    calls::previews(code, 8, b"\x01\x00\x00\x00\x00\x01\x00\x00\x00\x01\x01", 66);
+}
+
 // Both slots of the last group break it, one of it and its neighbour break none.
 fn breaks(code: Code) {
     calls::breaks(code, b"\x00\x00\x00\x00\x00\x00\x00\x00\x00\x01\x01");
@@ -62,6 +73,7 @@ fn short_code(code: Code, message: &[u8]) {
     counts(code);
     calls::views(code, 9, &word);
     loses(code, &word);
+    previews(code);
     breaks(code);
     let mut marks = ends_lost();
     let answer = pass::local_pass(code, &mut word, &mut marks);

@@ -35,6 +35,12 @@ fn loses(code: Code, word: &[u8]) {
     calls::decodes(code, word, b"\x01\x01\x00\x01\x01\x00\x01\x00\x00", 45);
 }
 
+// One loss more than the guarantee, and a slot that is lost already.
+fn previews(code: Code) {
+    calls::previews(code, 6, b"\x01\x01\x00\x01\x01\x00\x00\x00\x00", 45);
+    calls::previews(code, 0, b"\x01\x01\x00\x00\x00\x00\x00\x00\x00", 45);
+}
+
 // Two slots that are side by side break no group, two that are three apart do.
 fn breaks(code: Code) {
     calls::breaks(code, b"\x01\x01\x00\x00\x00\x00\x00\x00\x00");
@@ -46,6 +52,7 @@ fn wired_code(code: Code, message: &[u8]) {
     let mut word = spoiled(code, message);
     repairs(code);
     loses(code, &word);
+    previews(code);
     breaks(code);
     let mut marks = two_lost();
     let answer = pass::local_pass(code, &mut word, &mut marks);

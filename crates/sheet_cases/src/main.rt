@@ -1,10 +1,17 @@
-// Reports on a row of sheets: each is its length in two bytes, the high byte first, and its bytes.
+// Reports on a row of sheets, and previews them: each is its length in two bytes, the high byte first, and its bytes.
 ghost use Prim.Native.Nat.{_<_};
 
 // The report of one sheet.
 fn put_report(sheet: &[u8]) {
     let mut text = [0u8; 1032];
     let answer = reporting::report(sheet, &mut text);
+    show::put_front(&text, answer.value as usize);
+}
+
+// The preview of one sheet.
+fn put_preview(sheet: &[u8]) {
+    let mut text = [0u8; 8420];
+    let answer = preview_sheet::preview_sheet(sheet, &mut text);
     show::put_front(&text, answer.value as usize);
 }
 
@@ -30,10 +37,11 @@ fn put_sheet(input: &[u8], at: usize) -> usize {
         return end;
     }
     put_report(&input[start..start + n]);
+    put_preview(&input[start..start + n]);
     start + n
 }
 
-// The reports of the first 64 sheets.
+// The reports and previews of the first 64 sheets.
 fn put_sheets(input: &[u8]) {
     let mut at: usize = 0;
     let mut turns: u32 = 0;

@@ -21,11 +21,12 @@ use Rattle.code.specs.Family.{code-of, single, field-known, r-fits, n-fits, lea
 use Rattle.code.specs.Laws.{Family}
 use Rattle.code.specs.Promise.{Accepted}
 use Rattle.code.proofs.Accepted.{plain-of}
+use Rattle.previewing.specs.Preview.{marked, preview-of}
 use Rattle.words.specs.Word.{word-bytes, bytes, word-at, code-word, kept-word, lost-word, end-word, slot-word, word-symbol, word-mark}
 use Rattle.sheet.specs.Sheet.{sheet-words, middle-word, code-in, symbols-in, marks-in}
 use Rattle.worked.specs.Case.{N, ones, word, W, wired-message, wired-word, B, byte-message, byte-word, Cases-hold}
 use Rattle.worked.proofs.Quick.{raised, place-point, inverted, weighed, weights-by, repaired-by, points-from, drawn, drawn-is}
-use Rattle.worked.proofs.Deciding.{covered, first-differs, passed-to, within, past, foreign, undecided, graded-three, graded-four}
+use Rattle.worked.proofs.Deciding.{covered, first-differs, passed-to, within, past, foreign, undecided, graded-three, graded-four, previewed}
 use Rattle.worked.proofs.ShortCases.{_&_, short-cases-hold}
 
 abbrev SN : Shape
@@ -85,7 +86,7 @@ unfolding drawn place-point raised tabulate-from tabulate q γ times ceiling siz
 byte-rival = drawn-is SB (59 ∷ 2 ∷ 75 ∷ 4 ∷ 254 ∷ []) ∙ refl
 
 pub cases-hold : Cases-hold
-unfolding Cases-hold covered drawn place-point raised inverted weighed agrees tabulate-from tabulate count every all-below q γ xor-from plus minus doubled times-from times power inverse dotted ask ceiling size groups room missing whole wired field-known r-fits n-fits least k-fits wiring-fits code-refusal group member first step slot-at members point-at point exponent whole-basis basis degree most-shared is-message value-from value symbol encoded lost lost-number group-losses stands first-from first-broken guarantee grade others-from others mates mates-number weight-over weights-over restored weights repaired symbols-of kept-from kept-places sources mendable mends mend passed marks-after mended word-bytes bytes word-at code-word kept-word lost-word end-word slot-word word-symbol word-mark sheet-words middle-word code-in symbols-in marks-in
+unfolding Cases-hold marked preview-of covered drawn place-point raised inverted weighed agrees tabulate-from tabulate count every all-below q γ xor-from plus minus doubled times-from times power inverse dotted ask ceiling size groups room missing whole wired field-known r-fits n-fits least k-fits wiring-fits code-refusal group member first step slot-at members point-at point exponent whole-basis basis degree most-shared is-message value-from value symbol encoded lost lost-number group-losses stands first-from first-broken guarantee grade others-from others mates mates-number weight-over weights-over restored weights repaired symbols-of kept-from kept-places sources mendable mends mend passed marks-after mended word-bytes bytes word-at code-word kept-word lost-word end-word slot-word word-symbol word-mark sheet-words middle-word code-in symbols-in marks-in
 cases-hold =
     (refl, refl)
     & (refl, refl, ones-encoded)
@@ -106,6 +107,10 @@ cases-hold =
     & (refl, foreign SN family ones word refl ones-encoded _ _ (0 ∷ 0 ∷ 0 ∷ 0 ∷ 0 ∷ 0 ∷ 0 ∷ 0 ∷ 1 ∷ []) 8 refl refl (lit≤ tt) (lit< tt) refl (λ z. omega arith))
     & (refl, undecided SN family ones word refl ones-encoded (0 ∷ 8 ∷ 2 ∷ 7 ∷ []) _ refl rival-encoded (first-differs _ _ (λ z. omega arith)) _ _ refl refl)
     & (refl, graded-four SN family ones word refl ones-encoded (0 ∷ 8 ∷ 2 ∷ 7 ∷ []) _ refl rival-encoded (first-differs _ _ (λ z. omega arith)) (1 ∷ 1 ∷ 1 ∷ 1 ∷ 1 ∷ 1 ∷ 1 ∷ 1 ∷ 1 ∷ []) refl)
+    & (refl, lit< tt, refl)
+    & (refl, lit< tt, refl)
+    & (refl, lit< tt, previewed SN 8 (0 ∷ 0 ∷ 1 ∷ 0 ∷ 0 ∷ 1 ∷ 1 ∷ 1 ∷ 0 ∷ []) (0 ∷ 0 ∷ 1 ∷ 0 ∷ 0 ∷ 1 ∷ 1 ∷ 1 ∷ 1 ∷ []) refl refl (graded-three SN family (0 ∷ 0 ∷ 1 ∷ 0 ∷ 0 ∷ 1 ∷ 1 ∷ 1 ∷ 1 ∷ []) refl refl refl (lit≤ tt)) refl)
+    & (refl, lit< tt, previewed SN 8 (0 ∷ 0 ∷ 0 ∷ 0 ∷ 1 ∷ 1 ∷ 1 ∷ 1 ∷ 0 ∷ []) (0 ∷ 0 ∷ 0 ∷ 0 ∷ 1 ∷ 1 ∷ 1 ∷ 1 ∷ 1 ∷ []) refl refl (graded-four SN family ones word refl ones-encoded (0 ∷ 8 ∷ 2 ∷ 7 ∷ []) _ refl rival-encoded (first-differs _ _ (λ z. omega arith)) (0 ∷ 0 ∷ 0 ∷ 0 ∷ 1 ∷ 1 ∷ 1 ∷ 1 ∷ 1 ∷ []) refl) refl)
     & refl
     & refl
     & refl
@@ -138,6 +143,7 @@ cases-hold =
     & (refl, graded-three SW wired-family (0 ∷ 0 ∷ 1 ∷ 0 ∷ 0 ∷ 1 ∷ 1 ∷ 1 ∷ 1 ∷ []) refl refl refl (lit≤ tt))
     & (refl, undecided SW wired-family wired-message wired-word refl wired-encoded (11 ∷ 1 ∷ 6 ∷ 5 ∷ []) _ refl wired-rival (first-differs _ _ (λ z. omega arith)) _ _ refl refl)
     & (refl, graded-four SW wired-family wired-message wired-word refl wired-encoded (11 ∷ 1 ∷ 6 ∷ 5 ∷ []) _ refl wired-rival (first-differs _ _ (λ z. omega arith)) (0 ∷ 1 ∷ 1 ∷ 0 ∷ 1 ∷ 1 ∷ 0 ∷ 1 ∷ 0 ∷ []) refl)
+    & (refl, lit< tt, previewed SW 7 (0 ∷ 1 ∷ 1 ∷ 0 ∷ 1 ∷ 1 ∷ 0 ∷ 0 ∷ 0 ∷ []) (0 ∷ 1 ∷ 1 ∷ 0 ∷ 1 ∷ 1 ∷ 0 ∷ 1 ∷ 0 ∷ []) refl refl (graded-four SW wired-family wired-message wired-word refl wired-encoded (11 ∷ 1 ∷ 6 ∷ 5 ∷ []) _ refl wired-rival (first-differs _ _ (λ z. omega arith)) (0 ∷ 1 ∷ 1 ∷ 0 ∷ 1 ∷ 1 ∷ 0 ∷ 1 ∷ 0 ∷ []) refl) refl)
     & (refl, foreign SW wired-family wired-message wired-word refl wired-encoded _ _ (0 ∷ 0 ∷ 0 ∷ 0 ∷ 0 ∷ 0 ∷ 0 ∷ 0 ∷ 1 ∷ []) 8 refl refl (lit≤ tt) (lit< tt) refl (λ z. omega arith))
     & (refl, within SB byte-family byte-message byte-word refl byte-encoded _ _ refl (lit≤ tt))
     & (refl, past SB byte-family byte-message byte-word refl byte-encoded _ _ refl refl (lit≤ tt))

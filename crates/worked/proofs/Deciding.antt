@@ -7,6 +7,7 @@
 --   undecided    two messages fit, where another codeword has the kept symbols too
 --   graded-three    grade 3: past the guarantee, where the local pass brings the losses down to as many
 --   graded-four     grade 4: another codeword has the kept symbols too
+--   previewed       a preview by the numbers of the marks that follow
 use mathlib.Core.Path.{_≡_, refl, sym, ap, _∙_}
 use mathlib.Core.Logic.{_≢_}
 use mathlib.Core.Bool.{Bool, true, false, cond, not, _&&_, _||_}
@@ -23,7 +24,7 @@ use Rattle.code.specs.declared.Shape.{Shape}
 use Rattle.code.specs.Shape.{groups, group}
 use Rattle.code.specs.Codeword.{encoded, guarantee}
 use Rattle.code.specs.Decoding.{lost, agrees, fits}
-use Rattle.code.specs.Erasure.{lost-number, stands, grade}
+use Rattle.code.specs.Erasure.{lost-number, stands, first-broken, grade}
 use Rattle.code.specs.Pass.{mends, mend, passed, marks-after}
 use Rattle.code.specs.Laws.{Family}
 use Rattle.code.specs.Verdict.{Verdict, one, none, more}
@@ -35,6 +36,7 @@ use Rattle.code.proofs.Keeping.{group-agrees, before-and-after}
 use Rattle.code.proofs.Deciding.{own-fits, two-fit}
 use Rattle.code.proofs.Repaired.{decided-within}
 use Rattle.code.proofs.Graded.{four-of}
+use Rattle.previewing.specs.Preview.{marked, preview-of}
 
 -- the received word has the codeword's symbol wherever ns does not say lost, and ms says lost nowhere else
 unfoldable pub covered : (n : ℕ) (ws vs ms ns : List ℕ) → Bool
@@ -117,3 +119,8 @@ module _ (s : Shape) (F : Family s) where
       → lost-number s (marks-after s ms) ≤ guarantee s → grade s ms ≡ 3
   unfolding grade
   graded-three ms a b c l = rw (a, b, c, decided-within s F ms l) refl
+
+pub previewed : (s : Shape) (p : ℕ) (ms os : List ℕ) {l g f : ℕ} → marked ms p ≡ os → lost-number s os ≡ l → grade s os ≡ g → first-broken s os ≡ f
+    → preview-of s p ms ≡ record { refusal = 0; lost = l; grade = g; first = f }
+unfolding preview-of
+previewed s p ms os m a b c = cc (m, a, b, c)

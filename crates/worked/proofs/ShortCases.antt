@@ -23,11 +23,12 @@ use Rattle.code.specs.Family.{code-of, single, field-known, r-fits, n-fits, lea
 use Rattle.code.specs.Laws.{Family}
 use Rattle.code.specs.Promise.{Accepted}
 use Rattle.code.proofs.Accepted.{plain-of}
+use Rattle.previewing.specs.Preview.{marked, preview-of}
 use Rattle.words.specs.Word.{word-bytes, bytes, word-at, code-word, kept-word, lost-word, end-word, slot-word, word-symbol, word-mark}
 use Rattle.sheet.specs.Sheet.{sheet-words, middle-word, code-in, symbols-in, marks-in}
 use Rattle.worked.specs.Case.{Holds, byte-message, S, short-message, short-word, T, short-bytes, U, L, short-cases}
 use Rattle.worked.proofs.Quick.{raised, place-point, points-from, inverted, weighed, weights-by, repaired-by, vanish-by, sum-by, symbol-by, drawn-by, drawn-short}
-use Rattle.worked.proofs.Deciding.{covered, first-differs, passed-to, within, past, foreign, undecided, graded-three, graded-four}
+use Rattle.worked.proofs.Deciding.{covered, first-differs, passed-to, within, past, foreign, undecided, graded-three, graded-four, previewed}
 
 abbrev SS : Shape
 SS = single S
@@ -85,7 +86,7 @@ pub _&_ : {A B : Type 0} → A → B → A × B
 a & b = (a, b)
 
 pub short-cases-hold : Each Holds short-cases
-unfolding covered drawn-by symbol-by sum-by vanish-by place-point raised inverted weighed agrees tabulate-from tabulate count every all-below q γ xor-from plus minus doubled times-from times power inverse dotted ask ceiling size groups room missing whole wired field-known r-fits n-fits least k-fits wiring-fits code-refusal group member first step slot-at members point-at point exponent constant good vanish-from vanishing lead short-basis basis degree most-shared is-message value-from value symbol encoded lost lost-number group-losses stands first-from first-broken guarantee grade others-from others mates mates-number weight-over weights-over restored weights repaired symbols-of kept-from kept-places sources mendable mends mend passed marks-after mended word-bytes bytes word-at code-word kept-word lost-word end-word slot-word word-symbol word-mark sheet-words middle-word code-in symbols-in marks-in
+unfolding marked preview-of covered drawn-by symbol-by sum-by vanish-by place-point raised inverted weighed agrees tabulate-from tabulate count every all-below q γ xor-from plus minus doubled times-from times power inverse dotted ask ceiling size groups room missing whole wired field-known r-fits n-fits least k-fits wiring-fits code-refusal group member first step slot-at members point-at point exponent constant good vanish-from vanishing lead short-basis basis degree most-shared is-message value-from value symbol encoded lost lost-number group-losses stands first-from first-broken guarantee grade others-from others mates mates-number weight-over weights-over restored weights repaired symbols-of kept-from kept-places sources mendable mends mend passed marks-after mended word-bytes bytes word-at code-word kept-word lost-word end-word slot-word word-symbol word-mark sheet-words middle-word code-in symbols-in marks-in
 short-cases-hold =
     refl
     & refl
@@ -211,6 +212,7 @@ short-cases-hold =
     & (refl, refl)
     & (refl, refl)
     & (refl, refl)
+    & (refl, lit< tt, refl)
     & (refl, refl)
     & (refl, refl)
     & (refl, graded-three SS s-family (0 ∷ 0 ∷ 1 ∷ 0 ∷ 0 ∷ 1 ∷ 0 ∷ 0 ∷ 1 ∷ 1 ∷ 1 ∷ []) refl refl refl (lit≤ tt))
@@ -237,8 +239,10 @@ short-cases-hold =
     & (refl, within ST t-family byte-message short-bytes refl t-encoded _ _ refl (lit≤ tt))
     & (refl, past ST t-family byte-message short-bytes refl t-encoded _ _ refl refl (lit≤ tt))
     & (refl, graded-three ST t-family (1 ∷ 0 ∷ 0 ∷ 0 ∷ 0 ∷ 1 ∷ 1 ∷ 0 ∷ []) refl refl refl (lit≤ tt))
+    & (refl, lit< tt, previewed ST 0 (0 ∷ 0 ∷ 0 ∷ 0 ∷ 0 ∷ 1 ∷ 1 ∷ 0 ∷ []) (1 ∷ 0 ∷ 0 ∷ 0 ∷ 0 ∷ 1 ∷ 1 ∷ 0 ∷ []) refl refl (graded-three ST t-family (1 ∷ 0 ∷ 0 ∷ 0 ∷ 0 ∷ 1 ∷ 1 ∷ 0 ∷ []) refl refl refl (lit≤ tt)) refl)
     & (refl, undecided ST t-family byte-message short-bytes refl t-encoded (68 ∷ 140 ∷ 238 ∷ 5 ∷ 255 ∷ []) _ refl t-rival (first-differs _ _ (λ z. omega arith)) _ _ refl refl)
     & (refl, graded-four ST t-family byte-message short-bytes refl t-encoded (68 ∷ 140 ∷ 238 ∷ 5 ∷ 255 ∷ []) _ refl t-rival (first-differs _ _ (λ z. omega arith)) (0 ∷ 0 ∷ 0 ∷ 0 ∷ 0 ∷ 1 ∷ 1 ∷ 1 ∷ []) refl)
+    & (refl, lit< tt, previewed ST 7 (0 ∷ 0 ∷ 0 ∷ 0 ∷ 0 ∷ 1 ∷ 1 ∷ 0 ∷ []) (0 ∷ 0 ∷ 0 ∷ 0 ∷ 0 ∷ 1 ∷ 1 ∷ 1 ∷ []) refl refl (graded-four ST t-family byte-message short-bytes refl t-encoded (68 ∷ 140 ∷ 238 ∷ 5 ∷ 255 ∷ []) _ refl t-rival (first-differs _ _ (λ z. omega arith)) (0 ∷ 0 ∷ 0 ∷ 0 ∷ 0 ∷ 1 ∷ 1 ∷ 1 ∷ []) refl) refl)
     & (refl, undecided ST t-family byte-message short-bytes refl t-encoded (69 ∷ 77 ∷ 2 ∷ 4 ∷ 255 ∷ []) _ refl t-other (first-differs _ _ (λ z. omega arith)) _ _ refl refl)
     & (refl, foreign ST t-family byte-message short-bytes refl t-encoded _ _ (0 ∷ 0 ∷ 0 ∷ 0 ∷ 0 ∷ 0 ∷ 0 ∷ 1 ∷ []) 7 refl refl (lit≤ tt) (lit< tt) refl (λ z. omega arith))
     & (refl, refl, refl, refl, refl)

@@ -21,6 +21,7 @@ use Rattle.code.specs.Pass.{passed, marks-after, mended}
 use Rattle.code.specs.Family.{code-of, single, code-refusal}
 use Rattle.code.specs.Verdict.{Verdict}
 use Rattle.code.specs.Promise.{Accepted, Message}
+use Rattle.previewing.specs.Preview.{preview-of}
 use Rattle.words.specs.Word.{bytes}
 use Rattle.sheet.specs.Sheet.{sheet-words, code-in, symbols-in, marks-in}
 
@@ -42,6 +43,8 @@ pub data Case : Type 0 where
   graded : (c : Code) (marks : List ℕ) (grade : ℕ) → Case
   -- the first broken group, 255 if none
   breaks : (c : Code) (marks : List ℕ) (group : ℕ) → Case
+  -- the number lost, the grade and the first broken group once slot p is lost too
+  previews : (c : Code) (slot : ℕ) (marks : List ℕ) (lost grade first : ℕ) → Case
   -- the local pass: the word and the marks after it, and how many groups it repairs
   passes : (c : Code) (word marks after left : List ℕ) (number : ℕ) → Case
   -- the words of a stripe's sheet, and the symbols that are read back
@@ -62,6 +65,7 @@ Holds (decodes c ws ms xs) = Accepted c × ((buffer : List ℕ) → Verdict (sin
 Holds (declines c ws ms number) = Accepted c × ((buffer : List ℕ) → Verdict (single c) ws ms buffer buffer number)
 Holds (graded c ms g) = Accepted c × (grade (single c) ms ≡ g)
 Holds (breaks c ms g) = Accepted c × (first-broken (single c) ms ≡ g)
+Holds (previews c p ms l g f) = Accepted c × (p < c .n) × (preview-of (single c) p ms ≡ record { refusal = 0; lost = l; grade = g; first = f })
 Holds (passes c ws ms vs ns n) =
     Accepted c × (passed (single c) ws ms ≡ vs) × (marks-after (single c) ms ≡ ns) × (mended (single c) ms ≡ n)
 Holds (sheets c ws ms vs xs) =
@@ -246,6 +250,7 @@ short-cases =
     ∷ breaks S (1 ∷ 0 ∷ 0 ∷ 1 ∷ 0 ∷ 0 ∷ 1 ∷ 0 ∷ 0 ∷ 0 ∷ 1 ∷ []) 255
     ∷ graded S (0 ∷ 0 ∷ 0 ∷ 0 ∷ 0 ∷ 0 ∷ 0 ∷ 0 ∷ 0 ∷ 1 ∷ 1 ∷ []) 2
     ∷ breaks S (0 ∷ 0 ∷ 0 ∷ 0 ∷ 0 ∷ 0 ∷ 0 ∷ 0 ∷ 0 ∷ 1 ∷ 1 ∷ []) 3
+    ∷ previews S 10 (1 ∷ 0 ∷ 0 ∷ 0 ∷ 0 ∷ 0 ∷ 0 ∷ 0 ∷ 0 ∷ 1 ∷ 0 ∷ []) 3 2 3
     ∷ graded S (1 ∷ 1 ∷ 1 ∷ 0 ∷ 0 ∷ 0 ∷ 0 ∷ 0 ∷ 0 ∷ 1 ∷ 0 ∷ []) 2
     ∷ breaks S (1 ∷ 1 ∷ 1 ∷ 0 ∷ 0 ∷ 0 ∷ 0 ∷ 0 ∷ 0 ∷ 1 ∷ 0 ∷ []) 0
     ∷ graded S (0 ∷ 0 ∷ 1 ∷ 0 ∷ 0 ∷ 1 ∷ 0 ∷ 0 ∷ 1 ∷ 1 ∷ 1 ∷ []) 3
@@ -272,8 +277,10 @@ short-cases =
     ∷ decodes T (184 ∷ 218 ∷ 169 ∷ 88 ∷ 134 ∷ 255 ∷ 255 ∷ 126 ∷ []) (0 ∷ 0 ∷ 0 ∷ 0 ∷ 0 ∷ 1 ∷ 1 ∷ 0 ∷ []) byte-message
     ∷ decodes T (255 ∷ 218 ∷ 169 ∷ 88 ∷ 134 ∷ 255 ∷ 255 ∷ 126 ∷ []) (1 ∷ 0 ∷ 0 ∷ 0 ∷ 0 ∷ 1 ∷ 1 ∷ 0 ∷ []) byte-message
     ∷ graded T (1 ∷ 0 ∷ 0 ∷ 0 ∷ 0 ∷ 1 ∷ 1 ∷ 0 ∷ []) 3
+    ∷ previews T 0 (0 ∷ 0 ∷ 0 ∷ 0 ∷ 0 ∷ 1 ∷ 1 ∷ 0 ∷ []) 3 3 1
     ∷ declines T (184 ∷ 218 ∷ 169 ∷ 88 ∷ 134 ∷ 255 ∷ 255 ∷ 255 ∷ []) (0 ∷ 0 ∷ 0 ∷ 0 ∷ 0 ∷ 1 ∷ 1 ∷ 1 ∷ []) 10
     ∷ graded T (0 ∷ 0 ∷ 0 ∷ 0 ∷ 0 ∷ 1 ∷ 1 ∷ 1 ∷ []) 4
+    ∷ previews T 7 (0 ∷ 0 ∷ 0 ∷ 0 ∷ 0 ∷ 1 ∷ 1 ∷ 0 ∷ []) 3 4 1
     ∷ declines T (255 ∷ 255 ∷ 255 ∷ 88 ∷ 134 ∷ 218 ∷ 144 ∷ 126 ∷ []) (1 ∷ 1 ∷ 1 ∷ 0 ∷ 0 ∷ 0 ∷ 0 ∷ 0 ∷ []) 10
     ∷ declines T (184 ∷ 218 ∷ 169 ∷ 88 ∷ 134 ∷ 218 ∷ 144 ∷ 127 ∷ []) (0 ∷ 0 ∷ 0 ∷ 0 ∷ 0 ∷ 0 ∷ 0 ∷ 0 ∷ []) 9
     ∷ sheets S (255 ∷ 10 ∷ 12 ∷ 11 ∷ 4 ∷ 9 ∷ 4 ∷ 8 ∷ 7 ∷ 255 ∷ 7 ∷ []) (1 ∷ 0 ∷ 0 ∷ 0 ∷ 0 ∷ 0 ∷ 0 ∷ 0 ∷ 0 ∷ 1 ∷ 0 ∷ [])
@@ -305,6 +312,10 @@ cases =
     ∷ declines N (4 ∷ 8 ∷ 7 ∷ 1 ∷ 11 ∷ 2 ∷ 0 ∷ 0 ∷ 1 ∷ []) (0 ∷ 0 ∷ 0 ∷ 0 ∷ 0 ∷ 0 ∷ 0 ∷ 0 ∷ 0 ∷ []) 9
     ∷ declines N word (1 ∷ 1 ∷ 1 ∷ 1 ∷ 1 ∷ 1 ∷ 1 ∷ 1 ∷ 1 ∷ []) 10
     ∷ graded N (1 ∷ 1 ∷ 1 ∷ 1 ∷ 1 ∷ 1 ∷ 1 ∷ 1 ∷ 1 ∷ []) 4
+    ∷ previews N 7 (0 ∷ 0 ∷ 0 ∷ 0 ∷ 0 ∷ 0 ∷ 0 ∷ 0 ∷ 0 ∷ []) 1 1 255
+    ∷ previews N 0 (1 ∷ 1 ∷ 1 ∷ 1 ∷ 0 ∷ 0 ∷ 0 ∷ 0 ∷ 0 ∷ []) 4 2 0
+    ∷ previews N 8 (0 ∷ 0 ∷ 1 ∷ 0 ∷ 0 ∷ 1 ∷ 1 ∷ 1 ∷ 0 ∷ []) 5 3 2
+    ∷ previews N 8 (0 ∷ 0 ∷ 0 ∷ 0 ∷ 1 ∷ 1 ∷ 1 ∷ 1 ∷ 0 ∷ []) 5 4 1
     ∷ asks (code-of 0 2 9 6 0) 0
     ∷ asks (code-of 0 2 9 7 0) 4
     ∷ asks (code-of 0 2 9 0 0) 4
@@ -337,6 +348,7 @@ cases =
     ∷ graded W (0 ∷ 0 ∷ 1 ∷ 0 ∷ 0 ∷ 1 ∷ 1 ∷ 1 ∷ 1 ∷ []) 3
     ∷ declines W (10 ∷ 255 ∷ 255 ∷ 9 ∷ 255 ∷ 255 ∷ 6 ∷ 255 ∷ 4 ∷ []) (0 ∷ 1 ∷ 1 ∷ 0 ∷ 1 ∷ 1 ∷ 0 ∷ 1 ∷ 0 ∷ []) 10
     ∷ graded W (0 ∷ 1 ∷ 1 ∷ 0 ∷ 1 ∷ 1 ∷ 0 ∷ 1 ∷ 0 ∷ []) 4
+    ∷ previews W 7 (0 ∷ 1 ∷ 1 ∷ 0 ∷ 1 ∷ 1 ∷ 0 ∷ 0 ∷ 0 ∷ []) 5 4 1
     ∷ declines W (10 ∷ 2 ∷ 3 ∷ 9 ∷ 8 ∷ 0 ∷ 6 ∷ 0 ∷ 5 ∷ []) (0 ∷ 0 ∷ 0 ∷ 0 ∷ 0 ∷ 0 ∷ 0 ∷ 0 ∷ 0 ∷ []) 9
     ∷ decodes B (251 ∷ 255 ∷ 97 ∷ 51 ∷ 255 ∷ 1 ∷ 53 ∷ 176 ∷ 125 ∷ []) (0 ∷ 1 ∷ 0 ∷ 0 ∷ 1 ∷ 0 ∷ 0 ∷ 0 ∷ 0 ∷ []) byte-message
     ∷ decodes B (255 ∷ 108 ∷ 97 ∷ 255 ∷ 244 ∷ 1 ∷ 53 ∷ 255 ∷ 125 ∷ []) (1 ∷ 0 ∷ 0 ∷ 1 ∷ 0 ∷ 0 ∷ 0 ∷ 1 ∷ 0 ∷ []) byte-message
