@@ -34,8 +34,9 @@
  *
  * Alignment. Bytes may stand anywhere; a buffer of 32-bit numbers is aligned as uint32_t is.
  *
- * Stack. Report takes about 66 kilobytes, decode and record less than 6, the others 3 or less. No
- * other memory is needed but the buffers. (Measured on the compiled code; no proof covers it.)
+ * Stack. Report and preview_sheet take about 66 kilobytes, decode and record less than 6, preview
+ * less than 4, the others 3 or less. No other memory is needed but the buffers. (Measured on the
+ * compiled code; no proof covers it.)
  *
  * Processors. The archive is for x86-64 and uses SSE2 alone, which each of them has. One built for
  * newer processors (tools/build-for) does not test where it runs: on an older one the program ends
@@ -65,17 +66,19 @@ extern "C" {
 
 #define LATSEFIDY_VERSION_MAJOR 0
 #define LATSEFIDY_VERSION_MINOR 5
-#define LATSEFIDY_VERSION_PATCH 0
-#define LATSEFIDY_VERSION "0.5.0"
+#define LATSEFIDY_VERSION_PATCH 1
+#define LATSEFIDY_VERSION "0.5.1"
 
-#define LATSEFIDY_WEIGHTS 16       /* length of a weights buffer */
-#define LATSEFIDY_STRIP_MOST 4096  /* most symbols of one strip */
-#define LATSEFIDY_WORK_MOST 61455  /* work that is enough for every code */
-#define LATSEFIDY_RECORD 10        /* numbers of a record */
-#define LATSEFIDY_CODE 5           /* numbers of a code */
-#define LATSEFIDY_SHEET_LEAST 255  /* least word and marks of the sheet reader */
-#define LATSEFIDY_REPORT_MOST 1032 /* most bytes of input that the report judges */
-#define LATSEFIDY_REPORT_TEXT 1032 /* least text buffer of the report */
+#define LATSEFIDY_WEIGHTS 16        /* length of a weights buffer */
+#define LATSEFIDY_STRIP_MOST 4096   /* most symbols of one strip */
+#define LATSEFIDY_WORK_MOST 61455   /* work that is enough for every code */
+#define LATSEFIDY_PREVIEW 3         /* numbers of a preview */
+#define LATSEFIDY_RECORD 10         /* numbers of a record */
+#define LATSEFIDY_CODE 5            /* numbers of a code */
+#define LATSEFIDY_SHEET_LEAST 255   /* least word and marks of the sheet reader */
+#define LATSEFIDY_REPORT_MOST 1032  /* most bytes of input that report and preview_sheet judge */
+#define LATSEFIDY_REPORT_TEXT 1032  /* least text buffer of the report */
+#define LATSEFIDY_PREVIEW_TEXT 8420 /* least text buffer of preview_sheet */
 
 /* The number of each refusal; 16 is none. */
 enum latsefidy_refusals {
@@ -251,6 +254,24 @@ uint64_t latsefidy_grade(uint32_t field, uint32_t r, uint32_t n, uint32_t k, uin
                          const uint8_t *marks, size_t marks_len,
                          uint8_t *work, size_t work_len);
 
+/* Previews a loss, as before a drive is pulled: what marking the slot on a copy of the marks, and
+ * counting and grading the copy, gives. A slot that is lost already changes nothing.
+ *   marks     n marks, unchanged
+ *   work      at least n * (k + 1) bytes; 61,455 are enough for every code. Where the answer is 0
+ *             the first n * (k + 1) are 0 at the end, whatever the grade; the rest is unchanged
+ *   preview   3 numbers, written where the answer is 0: number lost, grade (1 to 4, as above),
+ *             first group with two or more losses (255 if none), all with the slot lost too
+ * Returns 0 or the refusal, asked in the order 1 2 3 4 17 5 7 8:
+ *   1 to 4  the code, and 17 its wiring
+ *   5       marks_len is not n, work_len is below n * (k + 1), or preview_len is not 3
+ *   7       slot is n or more
+ *   8       a mark is neither 0 nor 1
+ */
+uint32_t latsefidy_preview(uint32_t field, uint32_t r, uint32_t n, uint32_t k, uint32_t wiring,
+                           uint32_t slot, const uint8_t *marks, size_t marks_len,
+                           uint8_t *work, size_t work_len,
+                           uint32_t *preview, size_t preview_len);
+
 /* Decodes and fills the stripe's record.
  *   word, marks, message, work   as in decode; message is unchanged where the outcome is not 0, and
  *             where the answer is 0 the first n * (k + 1) bytes of work are 0 at the end
@@ -323,6 +344,20 @@ uint32_t latsefidy_write_sheet(uint32_t field, uint32_t r, uint32_t n, uint32_t 
  */
 uint64_t latsefidy_report(const uint8_t *input, size_t input_len,
                           uint8_t *text, size_t text_len);
+
+/* Writes what the preview program prints for a sheet: the preview of each kept slot, a line each,
+ * "slot" and its number, "grade" and "first" as they are with that slot lost too. The last line is
+ * "safe" and the slots whose loss leaves the message decided: the grade that follows is 3 or less.
+ * Code and marks alone count, so the kept symbols may be those of no codeword. A refused sheet is
+ * no refusal of the call: its text is "refused" and the number, as in the report. The text has no
+ * byte 0 at its end. The call takes about 66 kilobytes of stack.
+ *   input     the sheet, of any length; the first 1,032 bytes are judged
+ *   text      at least 8,420 bytes; the text is written at its front and the rest is unchanged
+ * Returns the refusal (high) and the length of the text (low). Asked:
+ *   5       text_len is below 8,420
+ */
+uint64_t latsefidy_preview_sheet(const uint8_t *input, size_t input_len,
+                                 uint8_t *text, size_t text_len);
 
 #ifdef __cplusplus
 }
