@@ -2,7 +2,7 @@
 
 use crate::raw;
 use crate::refusal::{accepted, value, Refusal};
-use crate::{Code, Record, WEIGHTS};
+use crate::{Code, Preview, Record, WEIGHTS};
 
 // SAFETY, for every call below: a slice is a valid pointer, never null, with its length, and Rust's
 // borrows keep a mutable slice apart from the others. The library has no other condition.
@@ -189,6 +189,45 @@ impl Code {
         let Code { field, r, n, k, wiring } = self;
         let (at, len) = (work.as_mut_ptr(), work.len());
         value(unsafe { raw::latsefidy_grade(field, r, n, k, wiring, marks.as_ptr(), marks.len(), at, len) })
+    }
+
+    /// What would follow from losing the slot too, as before a drive is pulled: the number lost, the
+    /// grade and the first group with two or more losses, of the marks with that slot marked. A slot
+    /// that is lost already changes nothing, and the marks stay as they are. Work is lent as for
+    /// [`grade`](Code::grade).
+    ///
+    /// ```
+    /// use latsefidy::{Code, Preview, Refusal};
+    ///
+    /// let code = Code::new(0, 2, 9, 4)?;
+    /// let (marks, mut work) = ([1, 1, 1, 1, 0, 0, 0, 0, 0], vec![0; code.work_len()]);
+    /// assert_eq!(code.preview(6, &marks, &mut work)?, Preview { lost: 5, grade: 3, first: Some(0) });
+    /// assert_eq!(code.preview(4, &marks, &mut work)?, Preview { lost: 5, grade: 4, first: Some(0) });
+    /// assert_eq!(code.preview(0, &marks, &mut work)?, Preview { lost: 4, grade: 2, first: Some(0) });
+    /// assert_eq!(code.preview(7, &[0; 9], &mut work)?, Preview { lost: 1, grade: 1, first: None });
+    /// assert_eq!(code.preview(9, &marks, &mut work), Err(Refusal::Slot));
+    /// # Ok::<(), Refusal>(())
+    /// ```
+    pub fn preview(self, slot: u32, marks: &[u8], work: &mut [u8]) -> Result<Preview, Refusal> {
+        let Code { field, r, n, k, wiring } = self;
+        let mut preview = [0; raw::PREVIEW];
+        accepted(unsafe {
+            raw::latsefidy_preview(
+                field,
+                r,
+                n,
+                k,
+                wiring,
+                slot,
+                marks.as_ptr(),
+                marks.len(),
+                work.as_mut_ptr(),
+                work.len(),
+                preview.as_mut_ptr(),
+                preview.len(),
+            )
+        })?;
+        Ok(Preview::from_numbers(preview))
     }
 
     /// Decodes, as [`decode`](Code::decode) does, and answers the stripe's record. 9 and 10 are

@@ -57,9 +57,9 @@ mod refusal;
 mod sheet;
 
 pub use code::Code;
-pub use record::{Outcome, Record};
+pub use record::{Outcome, Preview, Record};
 pub use refusal::Refusal;
-pub use sheet::{read_sheet, report};
+pub use sheet::{preview_sheet, read_sheet, report};
 
 /// Length of the weights of a slot: one a mate and then zeros.
 pub const WEIGHTS: usize = 16;
@@ -69,3 +69,5 @@ pub const STRIP_MOST: usize = 4096;
 pub const SHEET_LEAST: usize = 255;
 /// Least length of the report's text buffer.
 pub const REPORT_TEXT: usize = 1032;
+/// Least length of the text buffer of a sheet's previews.
+pub const PREVIEW_TEXT: usize = 8420;

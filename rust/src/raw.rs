@@ -1,5 +1,6 @@
 //! The C functions, as `include/latsefidy.h` declares them.
 
+pub const PREVIEW: usize = 3;
 pub const RECORD: usize = 10;
 pub const CODE: usize = 5;
 
@@ -35,6 +36,10 @@ extern "C" {
         field: u32, r: u32, n: u32, k: u32, wiring: u32, marks: *const u8, marks_len: usize,
         work: *mut u8, work_len: usize,
     ) -> u64;
+    pub fn latsefidy_preview(
+        field: u32, r: u32, n: u32, k: u32, wiring: u32, slot: u32, marks: *const u8, marks_len: usize,
+        work: *mut u8, work_len: usize, preview: *mut u32, preview_len: usize,
+    ) -> u32;
     pub fn latsefidy_record(
         field: u32, r: u32, n: u32, k: u32, wiring: u32, word: *const u8, word_len: usize,
         marks: *const u8, marks_len: usize, message: *mut u8, message_len: usize,
@@ -49,6 +54,9 @@ extern "C" {
         marks: *const u8, marks_len: usize, sheet: *mut u8, sheet_len: usize,
     ) -> u32;
     pub fn latsefidy_report(
+        input: *const u8, input_len: usize, text: *mut u8, text_len: usize,
+    ) -> u64;
+    pub fn latsefidy_preview_sheet(
         input: *const u8, input_len: usize, text: *mut u8, text_len: usize,
     ) -> u64;
 }

@@ -1,4 +1,4 @@
-//! A stripe's record.
+//! A stripe's record, and the preview of a loss.
 
 use crate::raw;
 use crate::Code;
@@ -33,14 +33,37 @@ pub struct Record {
     pub outcome: Outcome,
 }
 
+/// What would follow from losing a slot, as [`Code::preview`] answers it.
+#[derive(Clone, Copy, Debug, PartialEq, Eq, Hash)]
+pub struct Preview {
+    /// How many slots would be lost.
+    pub lost: u32,
+    /// The grade that would follow, from 1 to 4, as [`Code::grade`] has it. Under 4 alone the message
+    /// would no longer be decided.
+    pub grade: u32,
+    /// The first group that would have two or more losses, if there is one.
+    pub first: Option<u32>,
+}
+
 /// What the library answers for the first group where there is none.
 const NO_GROUP: u32 = 255;
+
+fn group(first: u32) -> Option<u32> {
+    (first != NO_GROUP).then_some(first)
+}
+
+impl Preview {
+    /// From the three numbers of an accepted call.
+    pub(crate) fn from_numbers([lost, grade, first]: [u32; raw::PREVIEW]) -> Preview {
+        Preview { lost, grade, first: group(first) }
+    }
+}
 
 impl Record {
     /// From the ten numbers of an accepted call, whose code is accepted too.
     pub(crate) fn from_numbers(numbers: [u32; raw::RECORD]) -> Record {
         let [field, r, n, k, wiring, lost, sure, grade, first, outcome] = numbers;
-        let first = (first != NO_GROUP).then_some(first);
+        let first = group(first);
         let outcome = match outcome {
             0 => Outcome::Decided,
             9 => Outcome::Foreign,

@@ -60,3 +60,27 @@ pub fn report(input: &[u8], text: &mut [u8]) -> Result<usize, Refusal> {
     // SAFETY: as for the calls with a code.
     value(unsafe { raw::latsefidy_report(input.as_ptr(), input.len(), to, len) }).map(|length| length as usize)
 }
+
+/// Writes the previews of a sheet at the front of text, of at least
+/// [`PREVIEW_TEXT`](crate::PREVIEW_TEXT) bytes; answers its length. Each kept slot has a line with the
+/// grade and the first group with two or more losses (255 if none) that would follow from its loss,
+/// as [`Code::preview`] answers them; the last line has the slots whose loss would leave the message
+/// decided. Code and marks alone count. A refused sheet is no refusal of the call: its text says so.
+/// The call takes about 66 kilobytes of stack.
+///
+/// ```
+/// use latsefidy::{preview_sheet, Refusal, PREVIEW_TEXT};
+///
+/// let words = [0x10020301u32, 0x20000005, 0x30000100, 0x20000205, 0x40000003];
+/// let mut text = [0; PREVIEW_TEXT];
+/// let length = preview_sheet(&words.map(u32::to_be_bytes).concat(), &mut text)?;
+/// assert_eq!(&text[..length], b"slot 0 grade 2 first 0\nslot 2 grade 2 first 0\nsafe 0 2\n");
+/// let length = preview_sheet(&[], &mut text)?;
+/// assert_eq!(&text[..length], b"refused 12\n");
+/// # Ok::<(), Refusal>(())
+/// ```
+pub fn preview_sheet(input: &[u8], text: &mut [u8]) -> Result<usize, Refusal> {
+    let (to, len) = (text.as_mut_ptr(), text.len());
+    // SAFETY: as for the calls with a code.
+    value(unsafe { raw::latsefidy_preview_sheet(input.as_ptr(), input.len(), to, len) }).map(|length| length as usize)
+}

@@ -219,6 +219,36 @@ fn grades_say_what_decodes() {
     assert!(seen.iter().all(|&count| count > 0), "{seen:?}");
 }
 
+/// A preview is the count, the grade and the first broken group of the marks with the slot marked, and marks nothing.
+#[test]
+fn previews_say_what_follows() {
+    let large = [Code::new(1, 4, 60, 40).unwrap(), Code::with_wiring(1, 4, 60, 40, 1).unwrap()];
+    let mut seen = [[0; 5]; 5];
+    for code in codes(0).chain(whole(0).map(wired)).chain(large) {
+        let n = code.n() as usize;
+        let (word, mut message) = (vec![0; n], vec![0; code.k() as usize]);
+        let mut work = vec![0; code.work_len()];
+        for (lost, step) in (0..n).flat_map(|lost| [(lost, 1), (lost, 2)]) {
+            let mut marks = vec![0; n];
+            (0..n).step_by(step).take(lost).for_each(|slot| marks[slot] = 1);
+            let grade = code.grade(&marks, &mut work).unwrap();
+            for slot in [0, lost, n / 2, n - 1] {
+                let mut copy = marks.clone();
+                copy[slot] = 1;
+                let found = code.preview(slot as u32, &marks, &mut work).unwrap();
+                let record = code.record(&word, &copy, &mut message, &mut work).unwrap();
+                let expected = (record.lost, record.grade, record.first);
+                assert_eq!((found.lost, found.grade, found.first), expected, "{code:?} {marks:?} {slot}");
+                assert!(found.grade >= grade && (marks[slot] == 0 || found.grade == grade));
+                seen[grade as usize][found.grade as usize] += 1;
+            }
+        }
+    }
+    for (grade, next) in [(0, 1), (1, 1), (1, 2), (1, 3), (1, 4), (2, 2), (2, 3), (2, 4), (3, 3), (3, 4), (4, 4)] {
+        assert!(seen[grade][next] > 0, "{seen:?}");
+    }
+}
+
 /// Member i of group g, by the first k unit messages: its symbols are the same under both wirings.
 #[test]
 fn wired_members_have_the_symbols_of_their_places() {
@@ -263,6 +293,8 @@ fn slots_of_n_or_more_are_refused() {
             assert_eq!(code.weights(slot), Err(Refusal::Slot));
             assert_eq!(code.group_of(slot), Err(Refusal::Slot));
             assert_eq!(code.mates(slot).err(), Some(Refusal::Slot));
+            let (marks, mut work) = (vec![0; code.n() as usize], vec![0; code.work_len()]);
+            assert_eq!(code.preview(slot, &marks, &mut work), Err(Refusal::Slot));
         }
     }
 }

@@ -1,6 +1,6 @@
 //! The worked cases of the specification, through the archive.
 
-use latsefidy::{read_sheet, report, Code, Outcome, Refusal};
+use latsefidy::{preview_sheet, read_sheet, report, Code, Outcome, Preview, Refusal, PREVIEW_TEXT};
 
 const WORD: [u8; 9] = [4, 8, 7, 1, 11, 2, 0, 0, 0];
 
@@ -139,6 +139,86 @@ fn grade_borrows_work() {
         assert_eq!(classroom().grade(marks, &mut work), Err(refusal));
         assert_eq!(work, vec![99; room]);
     }
+}
+
+/// The number lost, the grade and the first group that follow; marks stay, and work is left as a grade leaves it.
+fn previewed(code: Code, slot: u32, marks: &[u8]) -> (u32, u32, Option<u32>) {
+    let (before, mut work) = (marks.to_vec(), vec![99; code.work_len() + 3]);
+    let Preview { lost, grade, first } = code.preview(slot, marks, &mut work).unwrap();
+    assert!(work[..code.work_len()].iter().all(|&b| b == 0) && work[code.work_len()..] == [99; 3]);
+    assert_eq!(marks, before);
+    (lost, grade, first)
+}
+
+#[test]
+fn previews() {
+    assert_eq!(previewed(classroom(), 7, &[0; 9]), (1, 1, None));
+    assert_eq!(previewed(classroom(), 3, &marked(&[0, 7])), (3, 1, None));
+    assert_eq!(previewed(classroom(), 1, &marked(&[0])), (2, 2, Some(0)));
+    assert_eq!(previewed(classroom(), 6, &marked(&[0, 1, 2, 3])), (5, 3, Some(0)));
+    assert_eq!(previewed(classroom(), 4, &marked(&[0, 1, 2, 3])), (5, 4, Some(0)));
+    assert_eq!(previewed(classroom(), 8, &marked(&[2, 5, 6, 7])), (5, 3, Some(2)));
+    assert_eq!(previewed(classroom(), 8, &marked(&[4, 5, 6, 7])), (5, 4, Some(1)));
+    // A slot that is lost already.
+    assert_eq!(previewed(classroom(), 0, &marked(&[0, 1, 2, 3])), (4, 2, Some(0)));
+    assert_eq!(previewed(classroom(), 8, &[1; 9]), (9, 4, Some(0)));
+    // Groups that are spread, and a short last group.
+    assert_eq!(previewed(wired(), 0, &marked(&[0, 1])), (2, 1, None));
+    assert_eq!(previewed(wired(), 3, &marked(&[0, 1])), (3, 2, Some(0)));
+    assert_eq!(previewed(wired(), 6, &marked(&[0, 1, 3, 4])), (5, 4, Some(0)));
+    assert_eq!(previewed(short(), 10, &marked_short(&[0, 9])), (3, 2, Some(3)));
+    assert_eq!(previewed(short(), 8, &marked_short(&[0, 5, 9, 10])), (5, 3, Some(3)));
+    assert_eq!(previewed(code(1, 4, 8, 5), 0, &[0, 0, 0, 0, 0, 1, 1, 0]), (3, 3, Some(1)));
+    assert_eq!(previewed(code(1, 4, 8, 5), 7, &[0, 0, 0, 0, 0, 1, 1, 0]), (3, 4, Some(1)));
+}
+
+#[test]
+fn preview_asks_in_order() {
+    let marks = marked(&[2, 5, 6, 7]);
+    let mut bad = marks;
+    bad[8] = 2;
+    // Lengths, then the slot, then the marks; a refusal leaves work.
+    let refused = [
+        (8, &marks[..], 44, Refusal::Length),
+        (9, &marks[..], 44, Refusal::Length),
+        (9, &bad[..], 0, Refusal::Length),
+        (9, &bad[..8], 45, Refusal::Length),
+        (9, &marks[..], 45, Refusal::Slot),
+        (9, &bad[..], 45, Refusal::Slot),
+        (u32::MAX, &bad[..], 50, Refusal::Slot),
+        (0, &bad[..], 45, Refusal::Mark),
+        (8, &bad[..], 50, Refusal::Mark),
+    ];
+    for (slot, marks, room, refusal) in refused {
+        let mut work = vec![99; room];
+        assert_eq!(classroom().preview(slot, marks, &mut work), Err(refusal));
+        assert_eq!(work, vec![99; room]);
+    }
+}
+
+#[test]
+fn previews_sheets() {
+    let (mut sheet, mut text) = ([0; 44], [99; PREVIEW_TEXT + 1]);
+    let all = b"slot 4 grade 4 first 0\nslot 5 grade 4 first 0\n\
+                slot 6 grade 3 first 0\nslot 7 grade 3 first 0\nslot 8 grade 3 first 0\nsafe 6 7 8\n";
+    // Symbols of no codeword change nothing.
+    for word in [WORD, [4, 8, 7, 1, 11, 2, 0, 0, 1]] {
+        classroom().write_sheet(&word, &marked(&[0, 1, 2, 3]), &mut sheet).unwrap();
+        let length = preview_sheet(&sheet, &mut text).unwrap();
+        assert_eq!(&text[..length], all);
+        assert!(text[length..].iter().all(|&b| b == 99));
+    }
+    classroom().write_sheet(&WORD, &marked(&[2, 5, 6, 7, 8]), &mut sheet).unwrap();
+    let length = preview_sheet(&sheet, &mut text).unwrap();
+    let none =
+        b"slot 0 grade 4 first 0\nslot 1 grade 4 first 0\nslot 3 grade 4 first 1\nslot 4 grade 4 first 1\nsafe\n";
+    assert_eq!(&text[..length], none);
+    sheet[0] = 0x12;
+    let length = preview_sheet(&sheet, &mut text).unwrap();
+    assert_eq!(&text[..length], b"refused 1\n");
+    let before = text;
+    assert_eq!(preview_sheet(&sheet, &mut text[..PREVIEW_TEXT - 1]), Err(Refusal::Length));
+    assert_eq!(text, before);
 }
 
 #[test]
