@@ -23,7 +23,11 @@
                                  size_t word_len, const uint8_t *marks, size_t marks_len, uint8_t *message,                 \
                                  size_t message_len, uint8_t *work, size_t work_len);                                       \
     uint64_t latsefidy_grade##s(uint32_t field, uint32_t r, uint32_t n, uint32_t k, uint32_t wiring, const uint8_t *marks,  \
-                                size_t marks_len, uint8_t *work, size_t work_len);
+                                size_t marks_len, uint8_t *work, size_t work_len);                                          \
+    uint32_t latsefidy_preview##s(uint32_t field, uint32_t r, uint32_t n, uint32_t k, uint32_t wiring, uint32_t slot,       \
+                                  const uint8_t *marks, size_t marks_len, uint8_t *work, size_t work_len,                   \
+                                  uint32_t *preview, size_t preview_len);                                                   \
+    uint64_t latsefidy_preview_sheet##s(const uint8_t *input, size_t input_len, uint8_t *text, size_t text_len);
 LEVEL()
 LEVEL(_v3)
 LEVEL(_v4)
@@ -37,6 +41,8 @@ extern const struct level {
     __typeof__(latsefidy_local_pass) *pass;
     __typeof__(latsefidy_rebuild) *rebuild;
     __typeof__(latsefidy_grade) *grade;
+    __typeof__(latsefidy_preview) *preview;
+    __typeof__(latsefidy_preview_sheet) *preview_sheet;
     int needs; /* AVX-512 */
 } levels[LEVELS];
 
@@ -76,5 +82,6 @@ void strips(void);
 void wired(void);
 void short_groups(void);
 void grades(void);
+void previews(void);
 
 #endif
