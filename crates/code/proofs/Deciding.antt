@@ -1,5 +1,6 @@
 -- Losses that leave two different codewords, in plain terms, and losses that leave none. Assumes nothing.
 --   Two s ms                    == two messages whose codewords agree on the kept slots, and differ
+--   two-also                    two stay two where more is lost
 --   two-of, undecided-of        undecided losses have two; losses that have two are undecided
 --   two-fit                     two different messages that fit one word are two
 --   within, standing            none within the guarantee, none where every group stands
@@ -46,6 +47,18 @@ pub record Two (s : Shape) (ms : List ℕ) : Type 0 where
   pub other-is : Message-is s other
   pub agree : (p : ℕ) → p < s .n → at ms p ≢ 1 → symbol s one p ≡ symbol s other p
   pub differ : one ≢ other
+
+-- two stay two where more is lost
+pub two-also : (s : Shape) (ms os : List ℕ) → ((p : ℕ) → p < s .n → at ms p ≡ 1 → at os p ≡ 1) → Two s ms → Two s os
+two-also s ms os still W =
+    record {
+      one = W .one;
+      other = W .other;
+      one-is = W .one-is;
+      other-is = W .other-is;
+      agree = λ p h n. W .agree p h (λ e. n (still p h e));
+      differ = W .differ;
+    }
 
 -- a message fits its own codeword under any marks, and any other that fits it agrees with it
 module _ (s : Shape) (ms : List ℕ) where

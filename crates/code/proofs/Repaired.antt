@@ -19,7 +19,7 @@ use Rattle.code.specs.Promise.{Before-and-after}
 use Rattle.code.proofs.Codewords.{length-encoded}
 use Rattle.code.proofs.Passing.{at-marks}
 use Rattle.code.proofs.Keeping.{before-and-after}
-use Rattle.code.proofs.Deciding.{Two, own-fits, both-fit, two-fit, two-of, undecided-of, within}
+use Rattle.code.proofs.Deciding.{Two, two-also, own-fits, both-fit, two-fit, two-of, undecided-of, within}
 
 module _ (s : Shape) (F : Family s) (ms : List ℕ) where
   pub two-after : Two s ms → Two s (marks-after s ms)
@@ -39,15 +39,7 @@ module _ (s : Shape) (F : Family s) (ms : List ℕ) where
       go false z = z
 
   pub two-before : Two s (marks-after s ms) → Two s ms
-  two-before W =
-      record {
-        one = W .one;
-        other = W .other;
-        one-is = W .one-is;
-        other-is = W .other-is;
-        agree = λ p h n. W .agree p h (λ e. n (still-lost p h e));
-        differ = W .differ;
-      }
+  two-before W = two-also s (marks-after s ms) ms still-lost W
 
   pub undecided-after : undecided s (marks-after s ms) ≡ undecided s ms
   undecided-after = go (undecided s ms) refl

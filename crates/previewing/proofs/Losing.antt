@@ -20,7 +20,7 @@ use Rattle.code.specs.Decoding.{lost, undecided}
 use Rattle.code.specs.Erasure.{lost-number, group-losses, stands, first-from, first-broken, grade}
 use Rattle.code.specs.Laws.{Family}
 use Rattle.code.proofs.Bounds.{groups-most}
-use Rattle.code.proofs.Deciding.{two-of, undecided-of}
+use Rattle.code.proofs.Deciding.{two-also, two-of, undecided-of}
 use Rattle.previewing.specs.Preview.{marked}
 use Rattle.previewing.proofs.Marking.{marked-here, marked-there}
 
@@ -68,16 +68,7 @@ module _ (s : Shape) (ms os : List ℕ) (still : (o : ℕ) → lost ms o ≡ tru
     still-undecided : undecided s ms ≡ true → undecided s os ≡ true
     unfolding lost
     still-undecided e =
-        let W = two-of s F ms e in
-        undecided-of s F os
-        (record {
-          one = W .one;
-          other = W .other;
-          one-is = W .one-is;
-          other-is = W .other-is;
-          agree = λ p h n. W .agree p h (λ i. n (eqb→eq (at os p) 1 (so (still p (eq-eqb (at ms p) 1 i)))));
-          differ = W .differ;
-        })
+        undecided-of s F os (two-also s ms os (λ p h i. eqb→eq (at os p) 1 (so (still p (eq-eqb (at ms p) 1 i)))) (two-of s F ms e))
 
     pub grade-no-better : grade s ms ≤ grade s os
     unfolding grade
