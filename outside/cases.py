@@ -126,6 +126,20 @@ def other_codes():
     rebuilds(code, 7, b"", bytearray(0))
 
 
+def told_mates():
+    """Where k is below r: mates that some codeword has and mates that none has, alone, in a strip and in the local pass."""
+    repairs(ref.Code(0, 2, 3, 1), 0, bytes([5, 5]))
+    code, spread, short = ref.Code(1, 4, 10, 3), ref.Code(1, 4, 10, 3, 1), ref.Code(0, 3, 6, 2)
+    repairs(code, 7, bytes([9, 62, 11, 196]))
+    rebuilds(code, 7, bytes([9, 0, 22, 62, 0, 110, 11, 0, 41, 196, 0, 52]), bytearray(3))
+    rebuilds(code, 7, bytes([9, 0, 22, 62, 0, 110, 11, 0, 41, 196, 0, 53]), bytearray(3))
+    repairs(spread, 7, bytes([9, 62, 249, 196]))
+    repairs(spread, 7, bytes([10, 200, 30, 140]))
+    repairs(short, 0, bytes([6, 2, 4]))  # of degree 2
+    repairs(short, 0, bytes([8, 12, 5]))  # of degree 1, and of no codeword
+    passes(ref.Code(0, 2, 9, 1), bytearray([255, 5, 7, 4, 255, 4, 255, 255, 6]), bytearray([1, 0, 0, 0, 1, 0, 1, 1, 0]))
+
+
 def wired(field, *message):
     """Every call on a code with wiring 1 and the guarantee 4; the slots that are lost first hold no symbols."""
     code, word = ref.Code(field, 2, 9, 4, 1), bytearray(9)
@@ -190,6 +204,7 @@ if __name__ == "__main__":
     questions()
     short_questions()
     other_codes()
+    told_mates()
     wired(0, 1, 2, 3, 4)
     wired(1, 1, 2, 3, 255)
     short(0, 1, 2, 3, 4, 5)

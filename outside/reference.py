@@ -3,7 +3,8 @@
 It shares no code and no table with the library: products are carry-less products reduced by 11D,
 inverses are searched for, codewords are values of the encoding polynomial, repair is Lagrange's
 formula, and decoding is Gauss-Jordan elimination over all kept equations. A code whose last group
-is short has another basis (g and h), and its repair there takes the missing points as zeros. The
+is short has another basis (g and h), and its repair there takes the missing points as zeros. Mates
+are true where the equations of their slots have a solution: a message whose codeword has them. The
 grade goes by the dimension of the code cut down to the kept slots, and never decodes. The preview
 marks the slot on a copy, counts and grades; of a whole sheet one elimination tells it of all slots.
 
@@ -201,6 +202,39 @@ def marks_fit(marks):
     return all(m in (0, 1) for m in marks)
 
 
+# Linear equations --------------------------------------------------------------------------------
+
+
+@lru_cache(maxsize=None)
+def multiples(field, c):
+    """Byte a to c times a, for bytes.translate; bytes that are no symbols go to 0."""
+    q = order(field)
+    return bytes(mul(field, c, a) if a < q else 0 for a in range(256))
+
+
+def add_rows(field, a, b):
+    if field == 0:
+        return bytes((x + y) % 13 for x, y in zip(a, b))
+    return (int.from_bytes(a, "big") ^ int.from_bytes(b, "big")).to_bytes(len(a), "big")
+
+
+def reduced(field, rows, columns):
+    """Gauss-Jordan elimination by the first columns: the rows, those first that lead a column, and how many do."""
+    rows, rank, minus_one = list(rows), 0, sub(field, 0, 1)
+    for column in range(columns):
+        pivot = next((i for i in range(rank, len(rows)) if rows[i][column]), None)
+        if pivot is None:
+            continue
+        rows[rank], rows[pivot] = rows[pivot], rows[rank]
+        rows[rank] = rows[rank].translate(multiples(field, inverse(field, rows[rank][column])))
+        for i in range(len(rows)):
+            if i != rank and rows[i][column]:
+                factor = mul(field, minus_one, rows[i][column])
+                rows[i] = add_rows(field, rows[i], rows[rank].translate(multiples(field, factor)))
+        rank += 1
+    return rows, rank
+
+
 # Encoding and repair -----------------------------------------------------------------------------
 
 
@@ -254,6 +288,23 @@ def repaired(code, slot, symbols):
     return total
 
 
+def foreign_columns(code, slots, strips, columns):
+    """The columns of the slots' strips that no codeword has there.
+
+    A message whose codeword has a column's symbols solves the equations of the slots. They are reduced with the symbols of
+    all columns behind the coefficients: a column without a solution is not 0 in some row that has no coefficient left.
+    """
+    parts = [bytes(strips[i * columns : (i + 1) * columns]) for i in range(len(slots))]
+    rows = [bytes(basis(code, point(code, p))) + part for p, part in zip(slots, parts)]
+    rows, rank = reduced(code.field, rows, code.k)
+    return [c for c in range(columns) if any(row[code.k + c] for row in rows[rank:])]
+
+
+def foreign(code, slots, symbols):
+    """Whether no codeword has these symbols at these slots."""
+    return foreign_columns(code, slots, symbols, 1) != []
+
+
 def weights(code, slot, out):
     """1 2 3 4 17 5 7"""
     refusal = code_refusal(code)
@@ -269,7 +320,7 @@ def weights(code, slot, out):
 
 
 def repair(code, slot, symbols):
-    """1 2 3 4 17 5 7 6; the value is the slot's symbol."""
+    """1 2 3 4 17 5 7 6 9; the value is the slot's symbol."""
     refusal = code_refusal(code)
     if refusal:
         return refusal, 0
@@ -279,11 +330,13 @@ def repair(code, slot, symbols):
         return 7, 0
     if not symbols_fit(code, symbols):
         return 6, 0
+    if foreign(code, mates(code, slot), symbols):
+        return 9, 0
     return 0, repaired(code, slot, symbols)
 
 
 def rebuild(code, slot, strips, out):
-    """1 2 3 4 17 5 7 6"""
+    """1 2 3 4 17 5 7 6 9, each of all columns before the next"""
     refusal = code_refusal(code)
     if refusal:
         return refusal
@@ -294,6 +347,8 @@ def rebuild(code, slot, strips, out):
         return 7
     if not symbols_fit(code, strips):
         return 6
+    if foreign_columns(code, mates(code, slot), strips, columns):
+        return 9
     out[:] = bytes(repaired(code, slot, strips[c::columns]) for c in range(columns))
     return 0
 
@@ -318,7 +373,7 @@ def losses(code, marks, g):
 
 
 def local_pass(code, word, marks):
-    """1 2 3 4 17 5 8 6; the value is the number of groups repaired."""
+    """1 2 3 4 17 5 8 6; the value is the number of groups repaired. One whose kept symbols no codeword has is left."""
     refusal = code_refusal(code)
     if refusal:
         return refusal, 0
@@ -327,46 +382,16 @@ def local_pass(code, word, marks):
     if not marks_fit(marks):
         return 8, 0
     lost = [losses(code, marks, g) for g in range(groups(code))]
-    single = [slots[0] for slots in lost if len(slots) == 1]
-    if not all(symbols_fit(code, [word[p] for p in mates(code, s)]) for s in single):
+    kept = {slots[0]: [word[p] for p in mates(code, slots[0])] for slots in lost if len(slots) == 1}
+    if not all(symbols_fit(code, symbols) for symbols in kept.values()):
         return 6, 0
-    for s in single:
-        word[s] = repaired(code, s, [word[p] for p in mates(code, s)])
-        marks[s] = 0
-    return 0, len(single)
+    true = [s for s, symbols in kept.items() if not foreign(code, mates(code, s), symbols)]
+    for s in true:
+        word[s], marks[s] = repaired(code, s, kept[s]), 0
+    return 0, len(true)
 
 
 # Decoding ----------------------------------------------------------------------------------------
-
-
-@lru_cache(maxsize=None)
-def multiples(field, c):
-    """Byte a to c times a, for bytes.translate; bytes that are no symbols go to 0."""
-    q = order(field)
-    return bytes(mul(field, c, a) if a < q else 0 for a in range(256))
-
-
-def add_rows(field, a, b):
-    if field == 0:
-        return bytes((x + y) % 13 for x, y in zip(a, b))
-    return (int.from_bytes(a, "big") ^ int.from_bytes(b, "big")).to_bytes(len(a), "big")
-
-
-def reduced(field, rows, columns):
-    """Gauss-Jordan elimination by the first columns: the rows, those first that lead a column, and how many do."""
-    rows, rank, minus_one = list(rows), 0, sub(field, 0, 1)
-    for column in range(columns):
-        pivot = next((i for i in range(rank, len(rows)) if rows[i][column]), None)
-        if pivot is None:
-            continue
-        rows[rank], rows[pivot] = rows[pivot], rows[rank]
-        rows[rank] = rows[rank].translate(multiples(field, inverse(field, rows[rank][column])))
-        for i in range(len(rows)):
-            if i != rank and rows[i][column]:
-                factor = mul(field, minus_one, rows[i][column])
-                rows[i] = add_rows(field, rows[i], rows[rank].translate(multiples(field, factor)))
-        rank += 1
-    return rows, rank
 
 
 def eliminate(field, rows, unknowns):

@@ -1,5 +1,6 @@
 """Checks the reference: the paper's worked cases, brute force over small codes of thirteen by both wirings and with short
-last groups, grades and previews against decoding, and which calls vectors.py makes.
+last groups, true mates by every codeword and by parity checks, grades and previews against decoding, and which calls
+vectors.py makes.
 
     python3 outside/selftest.py
 """
@@ -132,7 +133,7 @@ def test_classroom():
     assert grade(N, range(4, 9)) == 4 and grade(N, range(9)) == 4
     assert decoded(N, ONES_WORD[:8] + b"\1", bytes(9))[0] == 9
     assert decoded(N, ONES_WORD, bytes([1] * 9))[0] == 10
-    assert ref.repair(Code(0, 2, 3, 1), 0, bytes([5, 7])) == (0, 0)
+    assert ref.repair(Code(0, 2, 3, 1), 0, bytes([5, 7])) == (9, 0)
 
 
 def test_wired_classroom():
@@ -176,7 +177,7 @@ def test_wired_bytes():
     code, out = Code(1, 4, 10, 3, 1), bytearray(16)
     assert ref.mates(code, 7) == [1, 3, 5, 9]
     assert ref.weights(code, 7, out) == 0 and out == bytes([68, 146, 221, 10] + [0] * 12)
-    assert ref.repair(code, 7, bytes([10, 200, 30, 140])) == (0, 241)
+    assert ref.repair(code, 7, bytes([10, 200, 30, 140])) == (9, 0) and ref.repaired(code, 7, [10, 200, 30, 140]) == 241
 
 
 def test_wired_is_permuted():
@@ -260,7 +261,7 @@ def test_sighted_cases():
     assert word == bytes([251, 51, 53, 108, 244, 176, 97, 1, 125])
     code, out = Code(1, 4, 10, 3), bytearray(16)
     assert ref.weights(code, 7, out) == 0 and out == bytes([146, 221, 10, 68] + [0] * 12)
-    assert ref.repair(code, 7, bytes([10, 200, 30, 140])) == (0, 246)
+    assert ref.repair(code, 7, bytes([10, 200, 30, 140])) == (9, 0) and ref.repaired(code, 7, [10, 200, 30, 140]) == 246
 
 
 def read(data):
@@ -434,10 +435,10 @@ def test_local_repair():
 
 
 def test_repair_is_interpolation():
-    """Repair is the value of the polynomial of degree below r through any mates."""
+    """Repair is the value of the polynomial of degree below r through the mates: any, where k is r or more."""
     for r in (1, 2, 3):
         for n, wiring in itertools.product(range(r + 1, 13, r + 1), (0, 1)):
-            code = Code(0, r, n, 1, wiring)
+            code = Code(0, r, n, r, wiring)
             for slot in range(n):
                 xs = [ref.point(code, p) for p in ref.mates(code, slot)]
                 x = ref.point(code, slot)
@@ -458,6 +459,168 @@ def test_short_repair_is_interpolation():
             ys = [a * sum(c * x**e for e, c in enumerate(factor)) % 13 for a, x in zip(h, points)]
             for i in range(s):
                 assert ref.repair(code, first + i, bytes(ys[:i] + ys[i + 1 :])) == (0, ys[i])
+
+
+def mates_of(code, word, slot):
+    return bytes(word[p] for p in ref.mates(code, slot))
+
+
+def untold(code, slot):
+    """Whether all that the mates can hold is some codeword's: where k is r or more, and in a short last group."""
+    return code.k >= code.r or len(ref.mates(code, slot)) < code.r
+
+
+def test_true_mates():
+    """Against every codeword: mates are true where one has them. There are q^k such sets, or all of them."""
+    rng, seen = random.Random(20), Counter()
+    for code in itertools.chain(small_codes(3), short_codes(3)):
+        words = [encoded(code, message) for message in all_messages(code)]
+        for slot in range(code.n):
+            mates, true = ref.mates(code, slot), {mates_of(code, word, slot) for word in words}
+            wanted = len(mates) if untold(code, slot) else code.k
+            assert len(true) == 13**wanted
+            if len(mates) <= 3:
+                sets = list(map(bytes, itertools.product(range(13), repeat=len(mates))))
+            else:
+                sets = rng.sample(sorted(true), min(len(true), 40))
+                near = [bytearray(rng.choice(sets)) for _ in range(40)]
+                for symbols in near:
+                    symbols[rng.randrange(len(mates))] = rng.randrange(13)
+                sets += [*map(bytes, near), *(bytes(rng.choices(range(13), k=len(mates))) for _ in range(40))]
+            strips = b"".join(bytes(symbols[i] for symbols in sets) for i in range(len(mates)))
+            foreign = ref.foreign_columns(code, mates, strips, len(sets))
+            assert foreign == [c for c, symbols in enumerate(sets) if symbols not in true], (code, slot)
+            for symbols in rng.sample(sets, min(len(sets), 20)):
+                answer = ref.repair(code, slot, symbols)
+                assert answer == ((0, ref.repaired(code, slot, symbols)) if symbols in true else (9, 0))
+                kind = "wired" if code.wiring else "short" if ref.short(code) else "whole"
+                seen[kind, untold(code, slot), answer[0]] += 1
+    assert set(seen) == {(kind, *told) for kind in ("whole", "wired", "short") for told in ((True, 0), (False, 0), (False, 9))}
+
+
+def test_true_is_no_degree():
+    """In the whole groups of short codes true mates can have the degree k or more, and others a degree below k."""
+    six, eleven = Code(0, 3, 6, 2), Code(0, 2, 11, 1)
+    points = bytes(ref.point(six, p) for p in (1, 2, 3))
+    assert bytes((x * x + 5 * x + 6) % 13 for x in points) == bytes([6, 2, 4])  # h, of degree 2
+    assert ref.repair(six, 0, bytes([6, 2, 4])) == (0, 12) and encoded(six, [0, 1])[:4] == bytes([12, 6, 2, 4])
+    assert ref.repair(six, 0, points) == (9, 0) and ref.repair(six, 0, bytes([1, 1, 1])) == (0, 1)
+    assert ref.repair(eleven, 0, bytes([9, 2])) == (0, 7) and ref.repair(eleven, 0, bytes([5, 5])) == (9, 0)
+    seen = set()
+    for code in itertools.chain(small_codes(2), short_codes(2)):
+        if code.r > 3 or code.k >= code.r or code.n <= code.r:
+            continue
+        xs = [ref.point(code, p) for p in ref.mates(code, 0)]
+        for poly in itertools.product(range(13), repeat=code.r):
+            low = not any(poly[code.k :])
+            ys = bytes(sum(c * x**e for e, c in enumerate(poly)) % 13 for x in xs)
+            seen.add((ref.short(code) > 0, low, ref.repair(code, 0, ys)[0]))
+    assert seen == {(False, True, 0), (False, False, 9), *((True, low, answer) for low in (True, False) for answer in (0, 9))}
+
+
+def checks(code, slot):
+    """The weights of r - k parity checks on the mates: of check i the repair weight times the mate's term less the slot's. A
+    term is x^(i+1), and where the last group is short x^i / h(x)."""
+    field, count = code.field, 0 if untold(code, slot) else code.r - code.k
+
+    def term(x, i):
+        scale = ref.inverse(field, ref.value_of_h(code, x)) if ref.short(code) else x
+        return ref.mul(field, scale, ref.power(field, x, i))
+
+    xs, own = [ref.point(code, p) for p in ref.mates(code, slot)], ref.point(code, slot)
+    pairs = list(zip(ref.repair_weights(code, slot), xs))
+    return [[ref.mul(field, w, ref.sub(field, term(x, i), term(own, i))) for w, x in pairs] for i in range(count)]
+
+
+def test_parity_checks():
+    """Mates are true just where every check sums to 0: each check is 0 on every unit codeword, and together they are r - k
+    equations. By sums too, of true mates and of others."""
+    rng, seen = random.Random(21), Counter()
+    large = [Code(1, 2, 9, 1), Code(1, 4, 10, 3, 1), Code(1, 4, 18, 2), Code(1, 4, 18, 3), Code(1, 14, 45, 6)]
+    large += [Code(1, 14, 44, 13), Code(1, 16, 34, 8, 1), Code(1, 16, 255, 8)]
+    large += [Code(1, 16, 250, 12), Code(1, 16, 20, 2), Code(1, 16, 254, 15)]
+    for code in itertools.chain(small_codes(11), short_codes(10), large):
+        field, q = code.field, ref.order(code.field)
+        for slot in range(code.n) if code.n < 40 else rng.sample(range(code.n), 6):
+            mates, rows = ref.mates(code, slot), checks(code, slot)
+            assert ref.rank(field, map(bytes, rows)) == len(rows)
+
+            def sums(symbols):
+                for row in rows:
+                    total = 0
+                    for w, s in zip(row, symbols):
+                        total = ref.add(field, total, ref.mul(field, w, s))
+                    yield total
+
+            parts = ref.kept_parts(code, mates)
+            assert not any(total for part in parts for total in sums(part))
+            assert ref.rank(field, parts) == len(mates) - len(rows)
+            true = mates_of(code, encoded(code, [rng.randrange(q) for _ in range(code.k)]), slot)
+            changed, noise = bytearray(true), bytes(rng.randrange(q) for _ in mates)
+            changed[rng.randrange(len(mates))] = rng.randrange(q)
+            for symbols in (true, changed, noise):
+                refused = any(sums(symbols))
+                assert ref.foreign(code, mates, symbols) == refused, (code, slot, symbols)
+                seen[field, ref.short(code) > 0, refused] += 1
+    assert len(seen) == 8 and min(seen.values()) > 20, seen
+
+
+def test_foreign_repair():
+    """Worked cases of 9, over both fields, by both wirings and in whole groups of short codes."""
+    five = Code(0, 2, 3, 1)
+    assert [ref.repair(five, 0, bytes(pair)) for pair in ((5, 7), (5, 5), (7, 7), (0, 0))] == [(9, 0), (0, 5), (0, 7), (0, 0)]
+    for code, slot, true, symbol in [
+        (Code(1, 4, 10, 3), 7, [9, 62, 11, 196], 249),
+        (Code(1, 4, 10, 3, 1), 7, [9, 62, 249, 196], 11),
+        (Code(0, 3, 12, 2, 1), 4, [5, 10, 8], 7),
+        (Code(0, 5, 9, 3), 1, [11, 0, 6, 6, 3], 7),
+        (Code(1, 4, 8, 2), 2, [171, 29, 99, 211], 11),
+        (Code(1, 4, 8, 3), 2, [179, 227, 142, 112], 149),
+        (Code(0, 11, 12, 1), 4, [3] * 11, 3),
+    ]:
+        assert ref.repair(code, slot, bytes(true)) == (0, symbol), code
+        for i in range(len(true)):
+            symbols = bytearray(true)
+            symbols[i] = (symbols[i] + 1) % ref.order(code.field)
+            assert ref.repair(code, slot, symbols) == (9, 0), (code, i)
+    assert ref.repair(Code(1, 4, 8, 3), 6, bytes([160, 252])) == (0, 70)  # a short group: any two will do
+    assert ref.repair(Code(1, 4, 8, 3), 6, bytes([161, 252])) == (0, 70 ^ 221)
+
+
+def test_foreign_strips():
+    """One column that no codeword has refuses the strip, wherever it stands, and the output stays."""
+    rng = random.Random(22)
+    for code, slot in [(Code(1, 4, 10, 3), 7), (Code(0, 3, 6, 2), 0), (Code(1, 16, 34, 8, 1), 9), (Code(0, 5, 9, 3), 3)]:
+        q, mates = ref.order(code.field), ref.mates(code, slot)
+        for columns in (1, 2, 3, 65):
+            words = [encoded(code, [rng.randrange(q) for _ in range(code.k)]) for _ in range(columns)]
+            good = b"".join(bytes(word[p] for word in words) for p in mates)
+            out = bytearray(columns)
+            assert ref.rebuild(code, slot, good, out) == 0 and out == bytes(word[slot] for word in words)
+            for place in {0, columns // 2, columns - 1}:
+                row = rng.randrange(len(mates))
+                strips, out = bytearray(good), bytearray(b"\xee" * columns)
+                strips[row * columns + place] = (strips[row * columns + place] + 1) % q
+                assert ref.foreign_columns(code, mates, strips, columns) == [place]
+                assert ref.rebuild(code, slot, strips, out) == 9 and out == b"\xee" * columns
+                if code.field == 0 and columns > 1:  # 6 is asked of all columns before 9 of any
+                    strips[(place + 1) % columns] = 13
+                    assert ref.rebuild(code, slot, strips, out) == 6 and out == b"\xee" * columns
+
+
+def test_foreign_order():
+    """9 comes after 5, 7 and 6, in repair and in rebuild."""
+    code, out = Code(0, 2, 3, 1), bytearray(b"\xee" * 2)
+    assert ref.repair(code, 0, bytes([5, 7, 7])) == (5, 0) and ref.repair(code, 3, bytes([5, 7])) == (7, 0)
+    assert ref.repair(code, 0, bytes([5, 13])) == (6, 0) and ref.repair(code, 3, bytes([5, 13])) == (7, 0)
+    assert ref.repair(code, 0, bytes([5, 7])) == (9, 0)
+    assert ref.repair(code._replace(wiring=2), 0, bytes([5, 7])) == (17, 0)
+    assert ref.repair(code._replace(k=3), 0, bytes([5, 7])) == (4, 0)
+    assert ref.repair(code._replace(k=2), 0, bytes([5, 7])) == (0, 0)  # with k 2 all mates are true
+    for strips, slot, wanted in [([5, 5, 7], 0, 5), ([5, 5, 7, 5], 3, 7), ([5, 13, 7, 5], 0, 6), ([13, 5, 13, 7], 0, 6)]:
+        assert ref.rebuild(code, slot, bytes(strips), out) == wanted and out == b"\xee" * 2
+    assert ref.rebuild(code, 0, bytes([5, 5, 5, 7]), out) == 9 and out == b"\xee" * 2
+    assert ref.rebuild(code, 0, bytes([5, 7, 5, 7]), out) == 0 and out == bytes([5, 7])
 
 
 def outcome_by_search(code, words, word, marks):
@@ -511,6 +674,50 @@ def test_local_pass():
             assert marks[p] == (0 if mended else left[p])
 
 
+def test_foreign_pass():
+    """Against every codeword: a group with one loss is mended where some codeword has its kept symbols, each group by itself;
+    another is left, lost byte and mark, and not counted. 6 is asked of the groups that are left too."""
+    rng, seen = random.Random(23), Counter()
+    for code in itertools.chain(small_codes(2), short_codes(2)):
+        words = [encoded(code, message) for message in all_messages(code)]
+        for _ in range(10):
+            word, marks = bytearray(code.n), bytearray(code.n)
+            for g in range(ref.groups(code)):  # each group of a codeword of its own, at times with a change, and lost slots
+                own, slots = rng.choice(words), ref.members(code, g)
+                lost = rng.sample(slots, rng.choice([0, 1, 1, 1, 2]))
+                for p in slots:
+                    word[p], marks[p] = own[p], p in lost
+                if rng.random() < 0.4:
+                    word[rng.choice(slots)] = rng.randrange(13)
+                for p in lost:
+                    word[p] = rng.randrange(256)
+            after, left, count = bytearray(word), bytearray(marks), 0
+            for g in range(ref.groups(code)):
+                lost = [p for p in ref.members(code, g) if marks[p]]
+                kept = [p for p in ref.members(code, g) if not marks[p]]
+                fitting = {w[lost[0]] for w in words if all(w[p] == word[p] for p in kept)} if len(lost) == 1 else set()
+                assert len(fitting) <= 1
+                if fitting:
+                    after[lost[0]], left[lost[0]], count = fitting.pop(), 0, count + 1
+                kind = "wired" if code.wiring else "short" if ref.short(code) else "whole"
+                seen[kind, len(lost) == 1, bool(left[lost[0]]) if lost else None] += 1
+            spoiled, bad = bytearray(word), bytearray(marks)
+            single = [p for p in range(code.n) if not marks[p] and sum(marks[m] for m in ref.mates(code, p)) == 1]
+            if single:
+                spoiled[rng.choice(single)] = rng.randrange(13, 256)
+                before = bytes(spoiled)
+                assert ref.local_pass(code, spoiled, bad) == (6, 0) and spoiled == before and bad == marks
+            assert ref.local_pass(code, word, marks) == (0, count)
+            assert word == after and marks == left, code
+    assert all(seen[kind, True, left] > 20 for kind in ("whole", "wired", "short") for left in (True, False)), seen
+    two = Code(0, 2, 9, 1)  # codewords are all of one symbol
+    word, marks = bytearray([99, 5, 7, 4, 99, 4, 99, 99, 6]), bytearray(marked(9, [0, 4, 6, 7]))
+    assert ref.local_pass(two, word, marks) == (0, 1)
+    assert word == bytes([99, 5, 7, 4, 4, 4, 99, 99, 6]) and marks == marked(9, [0, 6, 7])
+    word[1] = 13  # of the group that is left
+    assert ref.local_pass(two, word, marks) == (6, 0) and marks == marked(9, [0, 6, 7])
+
+
 def test_strips():
     rng = random.Random(4)
     stripes = [(code, slot) for code in (Code(1, 4, 10, 7), Code(1, 4, 10, 7, 1)) for slot in range(10)]
@@ -524,20 +731,34 @@ def test_strips():
 
 
 def test_lengths():
-    """vectors.py makes good rebuilds of every locality of both fields at every length, and in every short last group."""
-    seen, wirings, short = set(), set(), set()
+    """vectors.py makes good rebuilds of every locality of both fields at every length, and in every short last group; where k
+    is below r good ones and some with one column that no codeword has, at every length, and at every place of one length."""
+    seen, wirings, short, told, places = set(), set(), set(), set(), {code: set() for code in vectors.SWEPT}
     for data, refusal, _ in vectors.rebuilds(random.Random(1)):
-        _, _, field, r, n, _, wiring, slot, _, strips, given = struct.unpack_from(">11I", data)
+        _, _, field, r, n, k, wiring, slot, _, strips, given = struct.unpack_from(">11I", data)
         (columns,) = struct.unpack_from(">I", data, 44 + given)
-        mates = r if n % (r + 1) == 0 else n % (r + 1) - 1
-        assert refusal == 0 and strips == mates * columns and (mates == r or slot >= n - mates - 1)
-        (seen if mates == r else short).add((field, r, mates, columns))
-        wirings |= {(field, r, wiring), (field, columns, wiring)} if mates == r else set()
+        code, mates = Code(field, r, n, k, wiring), r if slot < n - n % (r + 1) else n % (r + 1) - 1
+        assert strips == given == mates * columns and refusal in (0, 9)
+        foreign = ref.foreign_columns(code, ref.mates(code, slot), data[44 : 44 + given], columns)
+        assert len(foreign) == (refusal == 9)
+        if columns == vectors.SWEPT_LENGTH:
+            places[code] |= set(foreign)
+            continue
+        if not untold(code, slot):
+            told |= {(field, r, columns, refusal), ("wired" if wiring else "short" if ref.short(code) else "whole", refusal)}
+            told |= {(field, {0: "first", columns // 2: "middle", columns - 1: "last"}.get(c)) for c in foreign if columns > 2}
+        if refusal == 0:
+            (seen if mates == r else short).add((field, r, mates, columns))
+            wirings |= {(field, r, wiring), (field, columns, wiring)} if mates == r else set()
     legal = [(f, r) for f in (0, 1) for r in range(40) if ref.code_refusal(Code(f, r, r + 1, 1)) == 0]
     assert seen == {(f, r, r, columns) for f, r in legal for columns in vectors.LENGTHS}
     assert short == {(f, r, mates, c) for f, r in legal for mates in range(1, r) for c in vectors.SHORT_LENGTHS}
-    assert {1, 63, 64, 65, 127, 128, 129, 255, 256, 257, 4096} <= set(vectors.LENGTHS)
+    assert {1, 2, 63, 64, 65, 127, 128, 129, 255, 256, 257, 300, 4096} <= set(vectors.LENGTHS)
     assert {(f, x, w) for f, r, _, c in seen for x in (r, c) for w in (0, 1)} == wirings
+    assert told >= {(f, r, columns, answer) for f, r in legal for columns in vectors.LENGTHS for answer in (0, 9) if r > 1}
+    assert told >= {(kind, answer) for kind in ("whole", "wired", "short") for answer in (0, 9)}
+    assert told >= {(f, place) for f in (0, 1) for place in ("first", "middle", "last", None)}
+    assert all(places[code] == set(range(vectors.SWEPT_LENGTH)) for code in vectors.SWEPT)
 
 
 def test_vectors():
@@ -582,11 +803,48 @@ def test_short_vectors():
     wanted = {(f, r, s) for f, r in vectors.LOCALITIES for s in range(2, r + 1)}
     assert seen == wanted | set(itertools.product(("least", "most", "alone"), (True, False)))
     for name, asked in vectors.QUESTIONS.items():
-        sure = set(asked) - {6, 7, 18}  # a slot that is none may give 5, the others depend on the losses and the wiring
+        sure = set(asked) - {6, 7, 9, 18}  # a slot that is none may give 5, the others depend on the losses, k and the wiring
         for number, _ in itertools.product(sure, range(30)):
             draft = vectors.Draft(rng, name, vectors.pick_code(rng, None, True))
             vectors.FAULTS[number](rng, draft)
             assert draft.finished()[1] == number, (name, number, draft.base)
+
+
+def test_foreign_vectors():
+    """vectors.py makes repairs of true and of foreign mates in every kind of code with k below r, foreign columns beside faults
+    of 5, 6 and 7, and words for the local pass with groups that are mended, groups that are left, and both."""
+    rng, seen = random.Random(24), Counter()
+    for index in range(2500):
+        data, refusal, _ = vectors.make_call(rng, "repair", index)
+        code, (slot, _, length) = Code(*struct.unpack_from(">5I", data, 8)), struct.unpack_from(">3I", data, 28)
+        kind = "wired" if code.wiring else "short" if code.r and ref.short(code) else "whole"
+        if refusal in (0, 9):
+            seen[kind, code.field, untold(code, slot), refusal] += 1
+            seen[code.field, code.r, code.k < code.r, refusal] += 1
+        data, refusal, did = vectors.make_call(rng, "local_pass", index)
+        code = Code(*struct.unpack_from(">5I", data, 8))
+        if refusal == 0:
+            kind = "wired" if code.wiring else "short" if ref.short(code) else "whole"
+            seen["pass", kind, code.field, did] += 1
+    for kind, field in itertools.product(("whole", "wired", "short"), (0, 1)):
+        assert seen[kind, field, True, 0] > 20 and seen[kind, field, False, 0] > 10 and seen[kind, field, False, 9] > 20, seen
+        assert seen[kind, field, True, 9] == 0
+        assert all(seen["pass", kind, field, did] > 4 for did in vectors.PASSES.values()), (kind, field)
+    assert all(seen[f, r, True, answer] for f, r in vectors.LOCALITIES if r > 1 for answer in (0, 9))
+    for number, _ in itertools.product((5, 6, 7), range(60)):
+        code = next(c for c in vectors.picks(rng, 0, None) if vectors.tells(c))
+        for name, columns in (("repair", 0), ("rebuild", rng.choice([1, 2, 5]))):
+            draft = vectors.Draft(rng, name, code, columns, vectors.told_slot(rng, code))
+            vectors.FAULTS[9](rng, draft)
+            strips, mates = draft.buffers["strips" if columns else "mates"].data, ref.mates(code, draft.slot)
+            found = ref.foreign_columns(code, mates, strips, columns or 1)
+            assert len(found) == 1
+            vectors.FAULTS[number](rng, draft)
+            if number == 6:
+                changed = draft.buffers["strips" if columns else "mates"].data
+                seen["6 beside"] += columns > 1 and all(s < 13 for s in changed[found[0] :: columns])
+            assert draft.finished()[1] == number, (name, number, code)
+    assert seen["6 beside"] > 10
 
 
 def test_short_mates():
@@ -600,8 +858,9 @@ def test_short_mates():
             given = "r" if length == code.r else "s - 1" if length == ref.short(code) - 1 else "other"
             seen.add((whose, given, refusal))
     good = {(whose, given, answer) for whose, given in (("short", "s - 1"), ("whole", "r")) for answer in (0, 6)}
+    good.add(("whole", "r", 9))
     wrong = {("short", "r", 5), ("whole", "s - 1", 5), ("none", "s - 1", 5), ("short", "other", 5), ("whole", "other", 5)}
-    assert seen >= good | wrong | {("none", "r", 7)} and ("none", "s - 1", 7) not in seen
+    assert seen >= good | wrong | {("none", "r", 7)} and not seen & {("none", "s - 1", 7), ("short", "s - 1", 9)}
 
 
 def test_order():

@@ -4,9 +4,10 @@
 
 The calls are valid, damaged and refused, with one fault or with several at once, over both fields,
 both wirings, short last groups and the corner codes. Besides come good rebuilds of every locality r of both fields at
-every length where the strip kernel takes another way, and in short last groups with every number of mates, unless
-"lengths" is among the names. A table of how often each answer came, and each grade, goes to standard error; of previews
-each grade before and after.
+every length where the strip kernel takes another way, and in short last groups with every number of mates; and where k is
+below r rebuilds with one column that no codeword has, at every length and at every place; unless "lengths" is among the
+names. A table of how often each answer came, and each grade, goes to standard error; of previews each grade before and
+after; of local passes how many mended groups, left groups, and did both.
 
 Format: a row of records and then the number 0. Every number is 32 bits, high byte first.
 
@@ -58,8 +59,8 @@ WIDE = ("record", "code", "preview")  # buffers of 32-bit numbers
 QUESTIONS = {
     "encode": (1, 2, 3, 4, 17, 5, 6),
     "weights": (1, 2, 3, 4, 17, 5, 7),
-    "repair": (1, 2, 3, 4, 17, 5, 6, 7),
-    "rebuild": (1, 2, 3, 4, 17, 5, 6, 7),
+    "repair": (1, 2, 3, 4, 17, 5, 6, 7, 9),
+    "rebuild": (1, 2, 3, 4, 17, 5, 6, 7, 9),
     "view": (1, 2, 3, 4, 17, 18, 5, 7),
     "local_pass": (1, 2, 3, 4, 17, 5, 6, 8),
     "decode": (1, 2, 3, 4, 17, 5, 6, 8),
@@ -79,6 +80,7 @@ GRADERS = ("grade", "preview", "preview_sheet", *SOLVERS)
 WRITERS = {"report": ref.REPORT_TEXT, "preview_sheet": ref.PREVIEW_TEXT}  # of a text, and its buffer's least length
 READERS = ("read_sheet", *WRITERS)
 SLOTTED = ("weights", "repair", "rebuild", "view", "preview")
+MENDERS = ("repair", "rebuild", "local_pass")
 for solver in SOLVERS:
     ANSWERS[solver] |= {9, 10}
 
@@ -117,19 +119,28 @@ CORNERS = [
     Code(1, 2, 254, 1),
     Code(1, 16, 250, 230),
     Code(1, 16, 254, 239),
+    Code(0, 2, 3, 1),
+    Code(1, 16, 255, 8),
+    Code(1, 16, 34, 8, 1),
+    Code(1, 16, 250, 12),
 ]
 LARGE = [code for code in CORNERS if code.n >= 250]
 # the localities of both fields, and the lengths of strips about the edges of the kernel's tiles
 LOCALITIES = [(0, r) for r in (1, 2, 3, 5, 11)] + [(1, r) for r in (2, 4, 14, 16)]
-LENGTHS = (1, 2, 15, 16, 17, 63, 64, 65, 127, 128, 129, 191, 192, 193, 255, 256, 257, 4095, 4096)
+LENGTHS = (1, 2, 15, 16, 17, 63, 64, 65, 127, 128, 129, 191, 192, 193, 255, 256, 257, 300, 4095, 4096)
 SHORT_LENGTHS = (1, 17, 64, 129, 257)  # of strips in short last groups
+SWEPT = (Code(1, 4, 10, 2), Code(1, 16, 34, 8, 1), Code(1, 4, 8, 3), Code(0, 3, 6, 2), Code(0, 11, 12, 5))
+SWEPT_LENGTH = 145  # a column that no codeword has stands at every place of strips of that length, by these codes
 WIRED = 0.45  # the share of codes that have wiring 1
 SHORT = 0.35  # the share of the others whose last group is short
 ROOMY = 0.6  # of the codes that are graded, the share that is to have losses of grade 3
+TOLD = 0.6  # of the codes that groups are mended by, the share that is to have mates of no codeword
 LARGEST = 2**32 - 1
 LONGEST = 65600  # bytes of a buffer
 TAILS = (1, 3, 4, 5)  # bytes after the longest sheet; the report and the preview read the first four
 STEPS = [(0, 1)] + [(a, b) for a in range(1, 5) for b in range(a, 5)]  # the grades before a preview's slot is lost and after
+TITLES = {"grade": "grades", "preview": "previews", "local_pass": "passes"}  # of the rows that count values
+PASSES = {"neither": (False, False), "mended": (True, False), "left": (False, True), "both": (True, True)}  # groups of one loss
 
 
 # Buffers and records -----------------------------------------------------------------------------
@@ -193,9 +204,12 @@ def shown(name, refusal, args):
 
 
 def told(name, refusal, value, code, args):
-    """The value that a call is counted by: of a preview the grade before the slot's loss and after."""
+    """The value that a call is counted by: of a preview the grade before the slot's loss and after, of a local pass whether it
+    mended groups and whether it left some that have one loss."""
     if refusal == 0 and name == "preview":
         return ref.graded(code, args[0]), args[2][1]
+    if refusal == 0 and name == "local_pass":
+        return value > 0, any(len(ref.losses(code, args[1], g)) == 1 for g in range(ref.groups(code)))
     return value
 
 
@@ -357,6 +371,102 @@ def pick_stripe(rng, code, noise):
     return word, marks
 
 
+def tells(code):
+    """Whether there are mates that no codeword has: k is below r, and some group is whole."""
+    return code.k < code.r < code.n
+
+
+def told_slot(rng, code):
+    """A slot with such mates, of a whole group."""
+    return rng.randrange(code.n - ref.short(code))
+
+
+def codeword_strips(rng, code, slots, columns):
+    """The strips of some slots, with a random codeword in every column: sums of multiples of the message's strips."""
+    message = [symbols(rng, code, columns) for _ in range(code.k)]
+    strips = []
+    for p in slots:
+        strip = bytes(columns)
+        for factor, part in zip(ref.basis(code, ref.point(code, p)), message):
+            strip = ref.add_rows(code.field, strip, part.translate(ref.multiples(code.field, factor)))
+        strips.append(strip)
+    return b"".join(strips)
+
+
+def true_strips(rng, code, slot, columns):
+    """The strips of a slot's mates, true in every column. Where any mates are true they are random."""
+    mates = ref.mates(code, slot)
+    if code.k >= code.r or len(mates) < code.r:
+        return symbols(rng, code, len(mates) * columns)
+    return codeword_strips(rng, code, mates, columns)
+
+
+def further(rng, code, slots):
+    """Multiples at these slots of the value of a polynomial that codewords have with k up to r, and not with this k."""
+    larger, first = code._replace(k=code.r), ref.g_symbols(code) if ref.short(code) else code.k
+    m, factor = first + rng.randrange(code.r - code.k), rng.randrange(1, ref.order(code.field))
+    return [ref.mul(code.field, factor, ref.basis(larger, ref.point(code, p))[m]) for p in slots]
+
+
+def one_foreign(rng, code, slot, columns, place):
+    """The same but for one column, which no codeword has then: one symbol of it is another, or a further polynomial is added.
+    The code tells, and the slot's group is whole."""
+    true, mates = true_strips(rng, code, slot, columns), ref.mates(code, slot)
+    strips = bytearray(true)
+    while not ref.foreign(code, mates, strips[place::columns]):
+        strips = bytearray(true)
+        if rng.random() < 0.5:
+            strips[rng.randrange(len(mates)) * columns + place] = symbols(rng, code, 1)[0]
+        else:
+            more = further(rng, code, mates)
+            strips[place::columns] = bytes(ref.add(code.field, a, b) for a, b in zip(true[place::columns], more))
+    return bytes(strips)
+
+
+def pick_strips(rng, code, slot, columns):
+    """Mates' strips: true in every column, in all but some symbols, or noise."""
+    shape = rng.choice(["true", "true", "changed", "noise"])
+    if shape == "noise":
+        return symbols(rng, code, len(ref.mates(code, slot)) * columns)
+    strips = bytearray(true_strips(rng, code, slot, columns))
+    for _ in range(rng.choice([1, 1, 2]) if shape == "changed" else 0):
+        strips[rng.randrange(len(strips))] = rng.randrange(ref.order(code.field))
+    return bytes(strips)
+
+
+def pick_place(rng, columns):
+    """The first column, the last, one in the middle, or any."""
+    return rng.choice([0, columns - 1, columns // 2, rng.randrange(columns)])
+
+
+def pick_groups(rng, code):
+    """A word and its marks for the local pass: each group by itself is of a codeword, of another one, of one with a change or
+    with a further polynomial, or noise, and mostly one slot of it is lost; any bytes under lost marks."""
+    marks = pick_marks(rng, code)
+    if rng.random() < 0.7:
+        for g in range(ref.groups(code)):
+            slots = ref.members(code, g)
+            lost = rng.sample(slots, rng.choice([0, 1, 1, 1, 1, 2]))
+            for p in slots:
+                marks[p] = p in lost
+    word = bytearray(code.n)
+    first, second = codeword_strips(rng, code, range(code.n), 1), codeword_strips(rng, code, range(code.n), 1)
+    shapes = ["codeword", "codeword", "other", "changed", "noise"] + ["further"] * tells(code)
+    for g in range(ref.groups(code)):
+        slots, shape = ref.members(code, g), rng.choice(shapes)
+        for p in slots:
+            word[p] = (second if shape == "other" else first)[p] if shape != "noise" else symbols(rng, code, 1)[0]
+        if shape == "changed":
+            word[rng.choice([p for p in slots if not marks[p]] or slots)] = symbols(rng, code, 1)[0]
+        if shape == "further":
+            for p, more in zip(slots, further(rng, code, slots)):
+                word[p] = ref.add(code.field, word[p], more)
+    for p in range(code.n):
+        if marks[p]:
+            word[p] = rng.randrange(256)
+    return word, marks
+
+
 def kept_again(rng, code, word, marks):
     """One of the lost slots, which is kept now with some symbol: its loss makes the losses what they were."""
     slot = rng.choice([p for p in range(code.n) if marks[p]] or range(code.n))
@@ -393,6 +503,8 @@ class Draft:
         self.word, self.marks = (bytearray(), bytearray())
         if "word" in BUFFERS[name] or "marks" in BUFFERS[name] or name in WRITERS:
             self.word, self.marks = pick_stripe(rng, code, 0.1 if name in SOLVERS else 0.9)
+        if name == "local_pass":
+            self.word, self.marks = pick_groups(rng, code)
         if name == "preview":
             self.slot = pick_loss(rng, code, self.slot, self.word, self.marks)
         if name == "preview_sheet" and rng.random() < 0.5:
@@ -409,10 +521,10 @@ class Draft:
         if kind == "message" and self.name == "encode":
             return Buffer(symbols(rng, code, code.k))
         if kind == "mates":
-            return Buffer(symbols(rng, code, self.mates()))
+            return Buffer(pick_strips(rng, code, self.slot, 1))
         if kind == "strips":
             self.columns = self.columns or pick_columns(rng, code)
-            return Buffer(symbols(rng, code, self.mates() * self.columns))
+            return Buffer(pick_strips(rng, code, self.slot, self.columns))
         if kind in ("word", "marks") and self.name != "read_sheet":
             return Buffer(getattr(self, kind))
         if kind in ("sheet", "input") and self.name != "write_sheet":
@@ -589,6 +701,15 @@ def fault_mark(rng, draft):
     put(draft, "marks", rng.randrange(draft.base.n), value)
 
 
+def fault_foreign(rng, draft):
+    """One column that no codeword has, among true ones. Where there is none such the mates stay as they are."""
+    base, slot = draft.base, draft.slot
+    if tells(base) and slot < base.n - ref.short(base):
+        columns = draft.columns or 1
+        strips = one_foreign(rng, base, slot, columns, pick_place(rng, columns))
+        draft.buffers["mates" if draft.name == "repair" else "strips"] = Buffer(strips)
+
+
 def fault_bytes(rng, draft):
     """A sheet whose length is no multiple of 4."""
     if rng.random() < 0.5:
@@ -652,6 +773,7 @@ FAULTS = {
     6: fault_symbol,
     7: fault_slot,
     8: fault_mark,
+    9: fault_foreign,
     11: fault_bytes,
     12: fault_first,
     13: fault_words,
@@ -701,22 +823,44 @@ def make_call(rng, name, index):
         aimed = aims(rng, name, late)
         short = True if 17 in aimed and name in READERS else False if 18 in aimed else None
         roomy = name in GRADERS and rng.random() < ROOMY
-        code = next(c for c in picks(rng, 0 if 6 in aimed else None, short) if has_room(c) or not roomy)
-        draft = Draft(rng, name, code._replace(wiring=0) if name == "view" else code)  # 18 is aimed at, else 5 and 7 hide
+        told = 9 in aimed or name in MENDERS and rng.random() < TOLD
+        if told and rng.random() < SHORT:
+            short = True  # else such codes are rare
+        codes = picks(rng, 0 if 6 in aimed else None, short)
+        code = next(c for c in codes if (has_room(c) or not roomy) and (tells(c) or not told))
+        slot = told_slot(rng, code) if 9 in aimed else None
+        if name == "view":
+            code = code._replace(wiring=0)  # 18 is aimed at, else 5 and 7 hide
+        draft = Draft(rng, name, code, 0, slot)
     if rng.random() < 0.3:
         unread(rng, draft)
-    for number in sorted(aimed, key=lambda a: (a in (12, 13), a)):  # those two move the rows
+    for number in sorted(aimed, key=lambda a: (a in (12, 13), a != 9, a)):  # 9 makes the mates anew, those two move the rows
         FAULTS[number](rng, draft)
     return draft.finished()
 
 
+def good_rebuild(rng, code, columns, slot=None):
+    draft = Draft(rng, "rebuild", code, columns, slot)
+    draft.buffers["strips"] = Buffer(true_strips(rng, code, draft.slot, columns))
+    return draft.finished()
+
+
+def foreign_rebuild(rng, code, columns, slot, place):
+    draft = Draft(rng, "rebuild", code, columns, slot)
+    draft.buffers["strips"] = Buffer(one_foreign(rng, code, slot, columns, place))
+    return draft.finished()
+
+
 def rebuilds(rng):
-    """Good rebuilds: of every locality, one at each length, of any slot, by the wirings in turn; and some in short groups."""
+    """Good rebuilds: of every locality, one at each length, of any slot, by the wirings in turn; some in short groups; and those
+    where k is below r."""
     for turn, ((field, r), columns) in enumerate(itertools.product(LOCALITIES, LENGTHS)):
         groups = rng.randint(1, (ref.order(field) - 1) // (r + 1))
         code = Code(field, r, *pick_size(rng, r, groups, r + 1), turn % 2)
-        yield Draft(rng, "rebuild", code, columns).finished()
+        yield good_rebuild(rng, code, columns)
     yield from short_rebuilds(rng)
+    yield from told_rebuilds(rng)
+    yield from swept_rebuilds(rng)
 
 
 def short_rebuilds(rng):
@@ -725,7 +869,39 @@ def short_rebuilds(rng):
         for s, columns in itertools.product(range(2, r + 1), SHORT_LENGTHS):
             groups = rng.randint(1, (ref.order(field) - 1) // (r + 1))
             code = Code(field, r, *pick_size(rng, r, groups, s))
-            yield Draft(rng, "rebuild", code, columns, rng.choice(last_slots(code))).finished()
+            yield good_rebuild(rng, code, columns, rng.choice(last_slots(code)))
+
+
+def told_code(rng, field, r, kind):
+    """A code with k below r and a whole group, of a kind: whole, wired, or with a short last group."""
+    most = (ref.order(field) - 1) // (r + 1)
+    groups = rng.randint(1, most)
+    if kind == "short" and most > 1:
+        groups, last = rng.randint(2, most), rng.randint(2, r)
+        return Code(field, r, (r + 1) * (groups - 1) + last, rng.randint(last - 1, r - 1))
+    return Code(field, r, (r + 1) * groups, rng.randint(1, r - 1), int(kind == "wired"))
+
+
+def told_rebuilds(rng):
+    """Where k is below r: of every locality, at each length, one that is true in every column, and two with one column that no
+    codeword has: at the ends or in the middle, and at any place."""
+    for turn, ((field, r), columns) in enumerate(itertools.product(LOCALITIES, LENGTHS)):
+        if r == 1:
+            continue  # k is never below 1
+        for part, kind in enumerate(("whole", "wired", "short")):
+            code = told_code(rng, field, r, kind)
+            slot, ends = told_slot(rng, code), (0, columns // 2, columns - 1)
+            if (turn + part) % 3 == 0:
+                yield good_rebuild(rng, code, columns, slot)
+            else:
+                place = ends[turn // 3 % 3] if (turn + part) % 3 == 1 else rng.randrange(columns)
+                yield foreign_rebuild(rng, code, columns, slot, place)
+
+
+def swept_rebuilds(rng):
+    """One column that no codeword has, at every place of strips of one length."""
+    for code, place in itertools.product(SWEPT, range(SWEPT_LENGTH)):
+        yield foreign_rebuild(rng, code, SWEPT_LENGTH, told_slot(rng, code), place)
 
 
 def main():
@@ -737,8 +913,8 @@ def main():
             data, number, value = make_call(rng, name, index)
             out.write(data)
             seen[name, number] += 1
-            if name in ("grade", "preview") and number == 0:
-                seen[name + "s", value] += 1
+            if name in TITLES and number == 0:
+                seen[TITLES[name], value] += 1
     for data, number, _ in rebuilds(rng) if "lengths" not in left_out else ():
         out.write(data)
         seen["rebuild", number] += 1
@@ -750,11 +926,12 @@ def main():
         stray = {a for n, a in seen if n == name} - ANSWERS[name]
         assert not stray, (name, stray)
         assert count < 600 or all(seen[name, a] for a in ANSWERS[name]), name
-    for name, values in (("grade", range(5)), ("preview", STEPS)):
+    grades, steps = {str(v): v for v in range(5)}, {f"{a}-{b}": (a, b) for a, b in STEPS}
+    for name, values in (("grade", grades), ("preview", steps), ("local_pass", PASSES)):
         if name in names:
-            row = [f"{'-'.join(map(str, v)) if name == 'preview' else v}:{seen[name + 's', v]}" for v in values]
-            print(f"{name + 's':13}", *row, file=sys.stderr)
-            assert count < 600 or all(seen[name + "s", v] for v in values)
+            row = [f"{label}:{seen[TITLES[name], v]}" for label, v in values.items()]
+            print(f"{TITLES[name]:13}", *row, file=sys.stderr)
+            assert count < 600 or all(seen[TITLES[name], v] for v in values.values())
 
 
 if __name__ == "__main__":
