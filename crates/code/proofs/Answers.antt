@@ -3,6 +3,8 @@
 --   answers-no, answers-yes    a call that answers a value
 --   fills-in, answers-in       what either says where it is not refused
 --   fills-is, fills-none       the answer is the refusal; an answer 0 is none
+--   fills-left                 any other leaves the buffer
+--   answers-is                 so of a call that answers a value
 use mathlib.Core.Path.{_≡_, sym, ap, _∙_}
 use mathlib.Core.Logic.{_≢_}
 use mathlib.Core.Bool.{cond}
@@ -45,3 +47,12 @@ fills-none n bs x a z e f = sym (fills-is n bs x a z f) ∙ e
 pub answers-in : (n v : ℕ) (x : Answer) → n ≡ 0 → Answers n v x → (x .refusal ≡ 0) × (x .value ≡ v)
 unfolding Answers
 answers-in n v x e a = (a .0 ∙ e, a .1 ∙ ap (λ b. cond b v 0) (eq-eqb n 0 e))
+
+pub fills-left : (n : ℕ) (bs : List ℕ) (x : ℕ) (a z : List ℕ) → x ≢ 0 → Fills n bs x a z → z ≡ a
+unfolding Fills
+fills-left zero bs x a z h f = absurd (h (f .0))
+fills-left (suc n) bs x a z h f = f .1
+
+pub answers-is : (n v : ℕ) (x : Answer) → Answers n v x → x .refusal ≡ n
+unfolding Answers
+answers-is n v x f = f .0

@@ -1,6 +1,7 @@
 -- Encoding polynomials in blocks of r coefficients: in powers of X to the power size, and where the last group is short in powers of g. Assumes nothing.
 --   value-whole     whole groups: the message itself is the coefficients
---   value-short     a short last group: r coefficients of h times the last symbols, and then the first symbols
+--   value-parts     a short last group: the first symbols with g, the last ones with h
+--   value-short     so r coefficients of h times the last symbols, and then the first symbols
 use mathlib.Core.Path.{_≡_, refl, sym, ap, ap₂, _∙_}
 use mathlib.Core.Bool.{Bool, true, false, cond}
 use mathlib.Core.List.{List, [], _∷_, _++_}
@@ -98,23 +99,16 @@ module _ (s : Shape) (P : Placed s) (short : whole s ≡ false) (x : Elem (s .fi
       (last-sum (suc m) bs (omega arith) (g .1) ∙ ap (λ o. R .mul (R .mul v (pow R x o)) (eval R (els f bs) x) .0) n)
       ∙ ap (λ (v : Elem f). v .0) (regroup (el f b) v (pow R x (m - lead s)) (eval R (els f bs) x))
 
-  -- ts are r coefficients of h times the last symbols
-  pub value-short : (xs ts : List ℕ) → Message-is s xs → lead s ≤ s .k → length ts ≡ s .r
-      → eval R (els f ts) x ≡ R .mul (vanish R (behind s) x) (eval R (els f (drop (lead s) xs)) x)
-      → value s xs (x .0) ≡ sums 0 (els f ts ++ els f (take (lead s) xs)) .0
+  pub value-parts : (xs : List ℕ) → Message-is s xs → lead s ≤ s .k
+      → value s xs (x .0)
+      ≡ R .add (sums (0 + s .r) (els f (take (lead s) xs))) (R .mul (vanish R (behind s) x) (eval R (els f (drop (lead s) xs)) x)) .0
   unfolding value pow
-  value-short xs ts M h l e =
+  value-parts xs M h =
       let us = take (lead s) xs in
       let bs = drop (lead s) xs in
       let n : length us ≡ lead s = length-take-le (lead s) xs (omega (arith, M .length-is)) in
-      let v = vanish R (behind s) x in
       ap (λ zs. value-from s (x .0) 0 zs) (sym (take-append-drop (lead s) xs))
-      ∙ first-sum 0 us bs (R .mul v (eval R (els f bs) x)) (omega arith) (all-below-take (q f) (lead s) xs (M .below)) (last-is n)
-      ∙ ap (λ (v : Elem f). v .0)
-      (R .add-comm (sums (0 + s .r) (els f us)) (R .mul v (eval R (els f bs) x))
-      ∙ ap₂ (R .add) (sym (based-first R (s .r) (P .r-least) y x (els f ts) (omega (arith, length-map ts (el f))) ∙ e))
-      (ap (λ n. sums n (els f us)) (omega (arith, length-map ts (el f))))
-      ∙ sym (based-append R (s .r) (P .r-least) y x 0 (els f ts) (els f us)))
+      ∙ first-sum 0 us bs (R .mul (vanish R (behind s) x) (eval R (els f bs) x)) (omega arith) (all-below-take (q f) (lead s) xs (M .below)) (last-is n)
     where
       last-is : length (take (lead s) xs) ≡ lead s → value-from s (x .0) (0 + length (take (lead s) xs)) (drop (lead s) xs)
           ≡ R .mul (vanish R (behind s) x) (eval R (els f (drop (lead s) xs)) x) .0
@@ -124,3 +118,17 @@ module _ (s : Shape) (P : Placed s) (short : whole s ≡ false) (x : Elem (s .fi
           ∙ last-sum (lead s) (drop (lead s) xs) (omega arith) (all-below-drop (q f) (lead s) xs (M .below))
           ∙ ap (λ (v : Elem f). R .mul v (eval R (els f (drop (lead s) xs)) x) .0)
           (ap (λ o. R .mul (vanish R (behind s) x) (pow R x o)) z ∙ R .mul-unit (vanish R (behind s) x))
+
+  -- ts are r coefficients of h times the last symbols
+  pub value-short : (xs ts : List ℕ) → Message-is s xs → lead s ≤ s .k → length ts ≡ s .r
+      → eval R (els f ts) x ≡ R .mul (vanish R (behind s) x) (eval R (els f (drop (lead s) xs)) x)
+      → value s xs (x .0) ≡ sums 0 (els f ts ++ els f (take (lead s) xs)) .0
+  value-short xs ts M h l e =
+      let us = take (lead s) xs in
+      let v = R .mul (vanish R (behind s) x) (eval R (els f (drop (lead s) xs)) x) in
+      value-parts xs M h
+      ∙ ap (λ (v : Elem f). v .0)
+      (R .add-comm (sums (0 + s .r) (els f us)) v
+      ∙ ap₂ (R .add) (sym (based-first R (s .r) (P .r-least) y x (els f ts) (omega (arith, length-map ts (el f))) ∙ e))
+      (ap (λ n. sums n (els f us)) (omega (arith, length-map ts (el f))))
+      ∙ sym (based-append R (s .r) (P .r-least) y x 0 (els f ts) (els f us)))

@@ -18,6 +18,7 @@ pub mod Weights
 pub mod Interpolating
 pub mod Parity
 pub mod Repairing
+pub mod Held
 pub mod Passing
 pub mod Keeping
 pub mod Searching

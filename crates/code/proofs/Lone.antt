@@ -1,4 +1,5 @@
 -- The local pass where groups stand one loss: a group is mended where it has just one, from the lost slot's mates. Assumes nothing.
+--   mends-is, mends-of    what the pass asks of a slot that it restores
 --   mendable-one    a group is mendable where it has exactly one loss
 --   mends-one       a slot that the pass restores is its group's only loss
 --   kept-lone       the places that a group with one loss keeps are the others of the lost one
@@ -29,7 +30,8 @@ use Rattle.code.specs.Shape.{size, room, group, member, members, slot-at
 use Rattle.code.specs.Decoding.{lost}
 use Rattle.code.specs.Erasure.{group-losses, stands}
 use Rattle.code.specs.Repair.{weight-over, weights-over, restored, repaired, symbols-of}
-use Rattle.code.specs.Pass.{kept-from, kept-places, sources, mendable, mends, mend}
+use Rattle.code.specs.Held.{held}
+use Rattle.code.specs.Pass.{kept-from, kept-places, sources, mendable, repairs, mends, mend}
 use Rattle.code.specs.Laws.{Placed, Mending}
 use Rattle.code.proofs.Places.{n-room, member-below, slot-group-member}
 use Rattle.code.proofs.Others.{length-others}
@@ -43,17 +45,34 @@ between zero = refl
 between (suc zero) = refl
 between (suc (suc n)) = rw (le-leb 1 (suc (suc n)) (omega arith), lt-leb (suc (suc n)) 1 (omega arith), ne-eqb (suc (suc n)) 1 (λ e. omega arith)) refl
 
+pub record Mends (s : Shape) (ws ms : List ℕ) (p : ℕ) : Type 0 where
+  pub lost-is : lost ms p ≡ true
+  pub mendable-is : mendable s ms (group s p) ≡ true
+  pub held-is : held s (kept-places s ms (group s p)) (symbols-of ws (kept-places s ms (group s p))) ≡ true
+
+module _ (s : Shape) (ws ms : List ℕ) (p : ℕ) where
+  pub mends-is : mends s ws ms p ≡ true → Mends s ws ms p
+  unfolding mends repairs
+  mends-is e =
+      let j : ℕ = group s p in
+      let a = lost ms p in
+      let b = mendable s ms j in
+      let c = held s (kept-places s ms j) (symbols-of ws (kept-places s ms j)) in
+      let t = and-right a (b && c) (so e) in
+      record { lost-is = yes-true a (and-left a (b && c) (so e)); mendable-is = yes-true b (and-left b c t); held-is = yes-true c (and-right b c t) }
+
+  pub mends-of : Mends s ws ms p → mends s ws ms p ≡ true
+  unfolding mends repairs
+  mends-of M = rw (M .lost-is, M .mendable-is, M .held-is) refl
+
 module _ (s : Shape) (one : s .tolerance ≡ 1) (ms : List ℕ) where
   pub mendable-one : (j : ℕ) → mendable s ms j ≡ eqb (group-losses s j ms) 1
   unfolding mendable stands
   mendable-one j = ap (λ t. leb 1 (group-losses s j ms) && leb (group-losses s j ms) t) one ∙ between (group-losses s j ms)
 
-  pub mends-one : (p : ℕ) → mends s ms p ≡ true → (lost ms p ≡ true) × (group-losses s (group s p) ms ≡ 1)
-  unfolding mends
-  mends-one p e =
-      let a = lost ms p in
-      let b = mendable s ms (group s p) in
-      (yes-true a (and-left a b (so e)), eqb-true (group-losses s (group s p) ms) 1 (sym (mendable-one (group s p)) ∙ yes-true b (and-right a b (so e))))
+  pub mends-one : (ws : List ℕ) (p : ℕ) → mends s ws ms p ≡ true → (lost ms p ≡ true) × (group-losses s (group s p) ms ≡ 1)
+  mends-one ws p e =
+      let r = mends-is s ws ms p e in (r .lost-is, eqb-true (group-losses s (group s p) ms) 1 (sym (mendable-one (group s p)) ∙ r .mendable-is))
 
 -- members are lost just where they are o
 kept-others : (s : Shape) (ms : List ℕ) (j o l i : ℕ) → ((m : ℕ) → i ≤ m → m < i + l → lost ms (slot-at s j m) ≡ eqb m o)

@@ -3,17 +3,18 @@
 --   sources-enough                          a group that stands keeps r of them
 --   passed-at, mark-at                      slot p's symbol and mark after the pass
 --   at-passed, at-marks                     so they are in the buffers
---   pass-mends                              Pass-mends of specs/Promise.antt
+--   mends-stands, mends-own                 a slot that the pass mends; a codeword's symbols are mended
+--   pass-mends, pass-tells                  of specs/Promise.antt
 use mathlib.Core.Path.{_≡_, refl, sym, ap, _∙_}
 use mathlib.Core.Logic.{_≢_}
-use mathlib.Core.Bool.{Bool, true, false, cond, _&&_}
-use mathlib.Core.List.{List, _∷_}
+use mathlib.Core.Bool.{Bool, true, false, cond}
+use mathlib.Core.List.{List, _∷_, map}
 use Prim.Native.Nat.{ℕ, zero, suc, _+_, _≤_, _<_}
 use native.Mathlib.Nat.{add-zero, add-suc, suc-add, zero-add}
 use native.Mathlib.Decide.{decLt}
 use native.Mathlib.Omega.{arith}
 use lib.Dec.{T, leb, leb→le}
-use lib.ListN.{length, take}
+use lib.ListN.{length, length-map, take}
 use lib.Seq.{length-take-le}
 use Rattle.algebra.specs.Sequence.{at, count, Each, Distinct}
 use Rattle.algebra.proofs.Booleans.{so, and-right}
@@ -27,29 +28,32 @@ use Rattle.code.specs.Codeword.{symbol, encoded}
 use Rattle.code.specs.Decoding.{lost}
 use Rattle.code.specs.Erasure.{group-losses, stands}
 use Rattle.code.specs.Repair.{restored, symbols-of}
+use Rattle.code.specs.Held.{held}
 use Rattle.code.specs.Pass.{kept-from, kept-places, sources, mendable, mends, mend, passed, marks-after}
 use Rattle.code.specs.Laws.{Placed, Family}
-use Rattle.code.specs.Promise.{Pass-mends}
+use Rattle.code.specs.Promise.{Pass-mends, Pass-tells}
 use Rattle.code.proofs.Places.{n-room, group-below, slot-below, group-slot-at, slot-at-injective}
-use Rattle.code.proofs.Codewords.{Message-is, message-is, length-encoded, at-encoded}
+use Rattle.code.proofs.Codewords.{Message-is, message-is, is-message-of, length-encoded, at-encoded}
 use Rattle.code.proofs.Fronts.{each-take, in-take, distinct-take}
 use Rattle.code.proofs.Distance.{symbol-behind}
 use Rattle.code.proofs.Repairing.{restores-place}
+use Rattle.code.proofs.Lone.{mends-is, mends-of}
+use Rattle.code.proofs.Held.{symbols-had, held-found, held-symbols}
 
 abbrev pub passed-at : Shape → (word marks : List ℕ) → ℕ → ℕ
-passed-at s ws ms p = cond (mends s ms p) (mend s ws ms p) (at ws p)
+passed-at s ws ms p = cond (mends s ws ms p) (mend s ws ms p) (at ws p)
 
-abbrev pub mark-at : Shape → (marks : List ℕ) → ℕ → ℕ
-mark-at s ms p = cond (mends s ms p) 0 (at ms p)
+abbrev pub mark-at : Shape → (word marks : List ℕ) → ℕ → ℕ
+mark-at s ws ms p = cond (mends s ws ms p) 0 (at ms p)
 
 module _ (s : Shape) (ws ms : List ℕ) (p : ℕ) (h : p < s .n) where
   pub at-passed : at (passed s ws ms) p ≡ passed-at s ws ms p
   unfolding passed
   at-passed = at-tabulate (passed-at s ws ms) 0 (s .n) p h
 
-  pub at-marks : at (marks-after s ms) p ≡ mark-at s ms p
+  pub at-marks : at (marks-after s ws ms) p ≡ mark-at s ws ms p
   unfolding marks-after
-  at-marks = at-tabulate (mark-at s ms) 0 (s .n) p h
+  at-marks = at-tabulate (mark-at s ws ms) 0 (s .n) p h
 
 module _ (s : Shape) (P : Placed s) (ms : List ℕ) (j : ℕ) where
   gone : ℕ → Bool
@@ -150,17 +154,39 @@ module _ (s : Shape) (F : Family s) (xs ws ms : List ℕ) (M : Message-is s xs) 
       (each-take (λ o. (o < room s) × (group s o ≡ j)) (s .r) os inside)
       ∙ sym (at-encoded s xs p h)
 
-pub mends-stands : (s : Shape) (ms : List ℕ) (p : ℕ) → mends s ms p ≡ true → T (stands s ms (group s p))
-unfolding mends mendable
-mends-stands s ms p e =
-    let j : ℕ = group s p in
-    let a = leb 1 (group-losses s j ms) in
-    let b = stands s ms j in
-    and-right a b (and-right (lost ms p) (a && b) (so e))
+pub mends-stands : (s : Shape) (ws ms : List ℕ) (p : ℕ) → mends s ws ms p ≡ true → T (stands s ms (group s p))
+unfolding mendable
+mends-stands s ws ms p e =
+    let j : ℕ = group s p in and-right (leb 1 (group-losses s j ms)) (stands s ms j) (so (mends-is s ws ms p e .mendable-is))
+
+-- a codeword's symbols at the kept places of a group that stands are mended
+pub mends-own : (s : Shape) (xs ws ms : List ℕ) (p : ℕ) → Message-is s xs → lost ms p ≡ true → mendable s ms (group s p) ≡ true
+    → symbols-of ws (kept-places s ms (group s p)) ≡ symbols-of (encoded s xs) (kept-places s ms (group s p)) → mends s ws ms p ≡ true
+mends-own s xs ws ms p M l a e =
+    let os : List ℕ = kept-places s ms (group s p) in
+    mends-of s ws ms p (record { lost-is = l; mendable-is = a; held-is = ap (held s os) e ∙ held-symbols s os xs M })
+
+restores-own : (s : Shape) (F : Family s) (xs ws ms : List ℕ) (p : ℕ) → Message-is s xs → p < s .n → mends s ws ms p ≡ true
+    → symbols-of ws (kept-places s ms (group s p)) ≡ symbols-of (encoded s xs) (kept-places s ms (group s p))
+    → at (passed s ws ms) p ≡ at (encoded s xs) p
+restores-own s F xs ws ms p M h mended e =
+    at-passed s ws ms p h ∙ ap (λ b. cond b (mend s ws ms p) (at ws p)) mended ∙ mend-restores s F xs ws ms M p h (mends-stands s ws ms p mended) e
 
 pub pass-mends : Pass-mends
-unfolding Pass-mends passed
-pass-mends s xs ws ms p F m h mended e =
-    at-tabulate (λ p. cond (mends s ms p) (mend s ws ms p) (at ws p)) 0 (s .n) p h
-    ∙ ap (λ b. cond b (mend s ws ms p) (at ws p)) mended
-    ∙ mend-restores s F xs ws ms (message-is s xs m) p h (mends-stands s ms p mended) e
+unfolding Pass-mends
+pass-mends s xs ws ms p F m h l a e =
+    let M = message-is s xs m in
+    let mended = mends-own s xs ws ms p M l a e in
+    (mended, restores-own s F xs ws ms p M h mended e, at-marks s ws ms p h ∙ ap (λ b. cond b 0 (at ms p)) mended)
+
+pub pass-tells : Pass-tells
+unfolding Pass-tells symbols-of
+pass-tells s ws ms p F h mended =
+    let os : List ℕ = kept-places s ms (group s p) in
+    let w = held-found s os (map (at ws) os) (mends-is s ws ms p mended .held-is) in
+    record {
+      message = w .message;
+      good = is-message-of s (w .message) (w .is);
+      had = symbols-had s os (map (at ws) os) (w .message) (length-map os (at ws)) (w .it-has);
+      all = λ xs m e. restores-own s F xs ws ms p (message-is s xs m) h mended (sym e);
+    }

@@ -12,7 +12,8 @@ use Rattle.code.proofs.Decoding.{decodes-back}
 use Rattle.code.proofs.Bridges.{bridges}
 use Rattle.code.proofs.Graded.{grade-four, grade-tells}
 use Rattle.code.proofs.Repairing.{low-degree, groups-tell, restores, repairs-back, strip-restores}
-use Rattle.code.proofs.Passing.{pass-mends}
+use Rattle.code.proofs.Held.{repair-tells}
+use Rattle.code.proofs.Passing.{pass-mends, pass-tells}
 use Rattle.code.proofs.Keeping.{before-and-after}
 use Rattle.code.proofs.Weights.{weights-law}
 use Rattle.code.proofs.Interpolating.{repair-interpolates}
@@ -41,7 +42,9 @@ promises =
       restores = restores;
       repairs-back = repairs-back;
       strip-restores = strip-restores;
+      repair-tells = repair-tells;
       pass-mends = pass-mends;
+      pass-tells = pass-tells;
       before-and-after = before-and-after;
       weights-law = weights-law;
       repair-interpolates = repair-interpolates;

@@ -1,7 +1,9 @@
 -- Searches: what they find, and that they do. Assumes nothing.
 --   any-intro, any-elim              some number below a bound passes a test
+--   every-some                       not every one passes: some number does not
 --   any-list-intro, any-list-elim    some list does
-use mathlib.Core.Path.{_≡_, refl, ap}
+--   both-ways                        two tests that say the same
+use mathlib.Core.Path.{_≡_, refl, sym, ap}
 use mathlib.Core.Bool.{Bool, true, false, not, _&&_}
 use mathlib.Core.List.{List, [], _∷_}
 use Prim.Native.Nat.{ℕ, zero, suc, _<_}
@@ -9,9 +11,13 @@ use native.Mathlib.Omega.{arith}
 use lib.Dec.{T, ltb, ltb→lt, lt→ltb}
 use lib.ListN.{length}
 use Rattle.algebra.specs.Sequence.{every, all-below}
-use Rattle.algebra.proofs.Booleans.{so, and-left, and-right, and-both}
+use Rattle.algebra.proofs.Booleans.{so, yes-true, no-false, and-left, and-right, and-both}
 use Rattle.algebra.proofs.Every.{every-not}
 use Rattle.code.specs.Search.{any, any-list}
+
+pub both-ways : (a b : Bool) → (T a → T b) → (T b → T a) → a ≡ b
+both-ways true b h l = sym (yes-true b (h tt))
+both-ways false b h l = sym (no-false b l)
 
 pub any-intro : (t : ℕ → Bool) (n i : ℕ) → i < n → t i ≡ true → any t n ≡ true
 unfolding any
@@ -29,6 +35,15 @@ any-elim t (suc n) e = go (t n) refl (any-elim t n) e
         → not (not b && every (λ i. not (t i)) n) ≡ true → (i : ℕ) × (i < suc n) × (t i ≡ true)
     go true p rest e = (n, omega arith, p)
     go false p rest e = more (rest e)
+
+pub every-some : (t : ℕ → Bool) (n : ℕ) → every t n ≡ false → (i : ℕ) × (i < n) × (t i ≡ false)
+unfolding every
+every-some t zero e = absurd (so (sym e))
+every-some t (suc n) e = go (t n) refl (every-some t n) e
+  where
+    go : (b : Bool) → t n ≡ b → (every t n ≡ false → (i : ℕ) × (i < n) × (t i ≡ false)) → b && every t n ≡ false → (i : ℕ) × (i < suc n) × (t i ≡ false)
+    go true p rest e = let w = rest e in (w .0, omega (arith, w .1), w .2)
+    go false p rest e = (n, omega arith, p)
 
 pub any-list-intro : (k q : ℕ) (t : List ℕ → Bool) (xs : List ℕ) → length xs ≡ k → T (all-below q xs) → t xs ≡ true → any-list k q t ≡ true
 unfolding any-list all-below

@@ -7,6 +7,7 @@ pub mod Codeword
 pub mod Decoding
 pub mod Erasure
 pub mod Repair
+pub mod Held
 pub mod Pass
 pub mod Family
 pub mod Laws

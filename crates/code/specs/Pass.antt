@@ -2,7 +2,8 @@
 --   kept-places s ms j      == the places of group j that are not lost, in order
 --   sources s ms j          == the first r of them
 --   mendable s ms j         == group j has lost one slot or more, and stands
---   mends s ms p            == the pass restores slot p
+--   repairs s ws ms j       == the pass repairs group j: it is mendable, and some codeword has its kept symbols
+--   mends s ws ms p         == the pass restores slot p
 --   mend s ws ms p          == its symbol, from the sources
 --   passed, marks-after, mended    the word, the marks and the number of groups repaired after a local pass
 use mathlib.Core.Bool.{Bool, cond, _&&_}
@@ -16,6 +17,7 @@ use Rattle.code.specs.Shape.{size, groups, group, slot-at}
 use Rattle.code.specs.Decoding.{lost}
 use Rattle.code.specs.Erasure.{group-losses, stands}
 use Rattle.code.specs.Repair.{restored, symbols-of}
+use Rattle.code.specs.Held.{held}
 
 unfoldable pub kept-from : Shape → (marks : List ℕ) → (left i j : ℕ) → List ℕ
 kept-from s ms zero i j = []
@@ -30,17 +32,20 @@ sources s ms j = take (s .r) (kept-places s ms j)
 unfoldable pub mendable : Shape → (marks : List ℕ) → (group : ℕ) → Bool
 mendable s ms j = leb 1 (group-losses s j ms) && stands s ms j
 
-unfoldable pub mends : Shape → (marks : List ℕ) → (slot : ℕ) → Bool
-mends s ms p = lost ms p && mendable s ms (group s p)
+unfoldable pub repairs : Shape → (word marks : List ℕ) → (group : ℕ) → Bool
+repairs s ws ms j = mendable s ms j && held s (kept-places s ms j) (symbols-of ws (kept-places s ms j))
+
+unfoldable pub mends : Shape → (word marks : List ℕ) → (slot : ℕ) → Bool
+mends s ws ms p = lost ms p && repairs s ws ms (group s p)
 
 unfoldable pub mend : Shape → (word marks : List ℕ) → (slot : ℕ) → ℕ
 mend s ws ms p = let os = sources s ms (group s p) in restored s os os p (symbols-of ws os)
 
 unfoldable pub passed : Shape → (word marks : List ℕ) → List ℕ
-passed s ws ms = tabulate (λ p. cond (mends s ms p) (mend s ws ms p) (at ws p)) (s .n)
+passed s ws ms = tabulate (λ p. cond (mends s ws ms p) (mend s ws ms p) (at ws p)) (s .n)
 
-unfoldable pub marks-after : Shape → (marks : List ℕ) → List ℕ
-marks-after s ms = tabulate (λ p. cond (mends s ms p) 0 (at ms p)) (s .n)
+unfoldable pub marks-after : Shape → (word marks : List ℕ) → List ℕ
+marks-after s ws ms = tabulate (λ p. cond (mends s ws ms p) 0 (at ms p)) (s .n)
 
-unfoldable pub mended : Shape → (marks : List ℕ) → ℕ
-mended s ms = count (mendable s ms) (groups s)
+unfoldable pub mended : Shape → (word marks : List ℕ) → ℕ
+mended s ws ms = count (repairs s ws ms) (groups s)

@@ -8,7 +8,8 @@
 --   Far-apart, Decodes-back, Encoding-injective, Bridges  one proof of the distance rule; messages and codewords
 --   Grade-four, Grade-tells                               the grade, and what it says of every word
 --   Groups-tell, Restores, Repairs-back, Strip-restores   groups
---   Pass-mends, Before-and-after                          the local pass
+--   Repair-tells                                          repair from symbols that some codeword has
+--   Pass-mends, Pass-tells, Before-and-after              the local pass
 --   Weights-law, Repair-interpolates, Weights-are         repair for any mates, of a codeword or not
 --   Promises                                              all of them
 use mathlib.Core.Path.{_≡_}
@@ -26,10 +27,11 @@ use Rattle.code.specs.Shape.{ceiling, size, groups, room, missing, group
 use Rattle.code.specs.Basis.{exponent, degree, most-shared}
 use Rattle.code.specs.Family.{single, code-refusal}
 use Rattle.code.specs.Codeword.{is-message, value, symbol, encoded, Codeword, shared, guarantee}
-use Rattle.code.specs.Decoding.{agrees, fits}
+use Rattle.code.specs.Decoding.{lost, agrees, fits}
 use Rattle.code.specs.Erasure.{lost-number, grade}
 use Rattle.code.specs.Repair.{restored, weights, repaired, symbols-of, strip}
-use Rattle.code.specs.Pass.{kept-places, mends, passed, marks-after}
+use Rattle.code.specs.Held.{held}
+use Rattle.code.specs.Pass.{kept-places, mendable, mends, passed, marks-after}
 use Rattle.code.specs.Whole.{Whole-stay}
 use Rattle.code.specs.Laws.{Placed, On-group, Family, Plain, Whole}
 
@@ -187,17 +189,36 @@ Strip-restores =
     (s : Shape) (xs : List ℕ) (p l i : ℕ) (strips : List ℕ) → Family s → s .tolerance ≡ 1 → Message s xs → p < s .n → i < l
     → column (length (mates s p)) l i strips ≡ symbols-of (encoded s xs) (mates s p) → at (strip s p l strips) i ≡ at (encoded s xs) p
 
--- the local pass leaves a codeword's symbol in every slot that it mends, if the group's kept slots hold the codeword's
+-- some message's codeword has the symbols ys at the places os, and every such one has x at slot p
+pub record Told (s : Shape) (os ys : List ℕ) (p x : ℕ) : Type 0 where
+  pub message : List ℕ
+  pub good : Message s message
+  pub had : symbols-of (encoded s message) os ≡ ys
+  pub all : (xs : List ℕ) → Message s xs → symbols-of (encoded s xs) os ≡ ys → x ≡ at (encoded s xs) p
+
+-- what repair answers to mates that some codeword has
+unfoldable pub Repair-tells : Type 0
+Repair-tells =
+    (s : Shape) (p : ℕ) (ys : List ℕ) → Family s → s .tolerance ≡ 1 → p < s .n → length ys ≡ length (mates s p) → held s (mates s p) ys ≡ true
+    → Told s (mates s p) ys p (repaired s p ys)
+
+-- if the kept slots of a mendable group hold a codeword's symbols, the local pass mends it, and leaves the codeword's in the lost ones
 unfoldable pub Pass-mends : Type 0
 Pass-mends =
-    (s : Shape) (xs ws ms : List ℕ) (p : ℕ) → Family s → Message s xs → p < s .n → mends s ms p ≡ true
+    (s : Shape) (xs ws ms : List ℕ) (p : ℕ) → Family s → Message s xs → p < s .n → lost ms p ≡ true → mendable s ms (group s p) ≡ true
     → symbols-of ws (kept-places s ms (group s p)) ≡ symbols-of (encoded s xs) (kept-places s ms (group s p))
-    → at (passed s ws ms) p ≡ at (encoded s xs) p
+    → (mends s ws ms p ≡ true) × (at (passed s ws ms) p ≡ at (encoded s xs) p) × (at (marks-after s ws ms) p ≡ 0)
+
+-- and it mends no others
+unfoldable pub Pass-tells : Type 0
+Pass-tells =
+    (s : Shape) (ws ms : List ℕ) (p : ℕ) → Family s → p < s .n → mends s ws ms p ≡ true
+    → Told s (kept-places s ms (group s p)) (symbols-of ws (kept-places s ms (group s p))) p (at (passed s ws ms) p)
 
 -- the same codewords agree with the kept symbols before and after the local pass, whatever the word
 unfoldable pub Before-and-after : Type 0
 Before-and-after =
-    (s : Shape) (ws ms xs : List ℕ) → Family s → length ws ≡ s .n → fits s ws ms xs ≡ fits s (passed s ws ms) (marks-after s ms) xs
+    (s : Shape) (ws ms xs : List ℕ) → Family s → length ws ≡ s .n → fits s ws ms xs ≡ fits s (passed s ws ms) (marks-after s ws ms) xs
 
 -- weights of mates give the slot's value of every polynomial of r coefficients that is 0 at the places behind the slots
 unfoldable pub Weights-law : Type 0
@@ -252,7 +273,9 @@ pub record Promises : Type 0 where
   pub restores : Restores
   pub repairs-back : Repairs-back
   pub strip-restores : Strip-restores
+  pub repair-tells : Repair-tells
   pub pass-mends : Pass-mends
+  pub pass-tells : Pass-tells
   pub before-and-after : Before-and-after
   pub weights-law : Weights-law
   pub repair-interpolates : Repair-interpolates
