@@ -25,7 +25,7 @@ use Rattle.code.proofs.Expansion.{value-whole}
 use Rattle.local_code.specs.Step.{local-coefs, level, local-value}
 use Rattle.local_code.proofs.Symbols.{local-based}
 use Rattle.lengthening.specs.Step.{Row}
-use Rattle.encode.specs.Step.{evaluated}
+use Rattle.evaluation.specs.Step.{evaluated}
 
 module _ (s : Shape) (P : Placed s) (c : ℕ) (rs xs : List ℕ) where
   -- slot by slot

@@ -1,15 +1,14 @@
-// The codeword of a message, group by group.
+// The codeword of a message, or the refusal.
 ghost use mathlib.Core.Path.{_≡_};
 ghost use mathlib.Core.Bool.{true, false};
-ghost use Prim.Native.Nat.{_+_, _<_};
+ghost use Prim.Native.Nat.{_+_};
 ghost use lib.ListN.{length};
 ghost use Rattle.field.specs.Table.{Powers, Logs};
 ghost use Rattle.code.specs.Family.{single, code-refusal};
-ghost use Rattle.code.specs.Shape.{groups, missing, whole};
+ghost use Rattle.code.specs.Shape.{missing, whole};
 ghost use Rattle.code.specs.Codeword.{is-message, encoded};
-ghost use Rattle.code.specs.Laws.{Placed, Plain};
+ghost use Rattle.code.specs.Laws.{Plain};
 ghost use Rattle.encode.specs.Encode.{encode-refusal, Encode-says};
-ghost use Rattle.encode.specs.Step.{evaluated, Group-written};
 use code::Code;
 use code::Shape;
 
@@ -29,50 +28,6 @@ fn encode_refusal(refusal: u32, shape: Shape, message: &[u8], length: usize) -> 
     )
 }
 
-// Writes the values of a row's polynomial to the slots of a group.
-fn write_group(
-    shape: Shape,
-    row: &[u8],
-    c: u8,
-    group: u32,
-    codeword: &mut [u8],
-    powers: &[u8; 255],
-    logs: &[u8; 256],
-)
-    requires { ⌜ Powers 1 (now powers) × Logs (now logs) × Placed shape × (group < groups shape) × (length (now codeword) ≡ shape .n) ⌝ }
-    ensures { λ _. ⌜ Group-written shape c (now (row .entry)) group (now (codeword .entry)) (now (codeword .exit)) ⌝ }
-{
-    let members = layout::members_of(shape, group) as usize;
-    let first = layout::first_of(shape, group) as usize;
-    let step = layout::step_of(shape) as usize;
-    let symbols = local_code::group_symbols(shape, row, c, group, powers, logs);
-    let mut i: usize = 0;
-    while i < members {
-        codeword[first + i * step] = symbols[i];
-        i += 1;
-    }
-}
-
-// Writes the values of a row's polynomial to all slots, group by group.
-fn write_codeword(
-    shape: Shape,
-    row: &[u8],
-    c: u8,
-    codeword: &mut [u8],
-    powers: &[u8; 255],
-    logs: &[u8; 256],
-)
-    requires { ⌜ Powers 1 (now powers) × Logs (now logs) × Placed shape × (length (now codeword) ≡ shape .n) ⌝ }
-    ensures { λ _. ⌜ now (codeword .exit) ≡ evaluated shape c (now (row .entry)) ⌝ }
-{
-    let groups = layout::groups_of(shape);
-    let mut group: u32 = 0;
-    while group < groups {
-        write_group(shape, row, c, group, codeword, powers, logs);
-        group += 1;
-    }
-}
-
 // Writes the codeword of a message of a code with a short last group: of its row, in powers of g.
 fn write_short(
     shape: Shape,
@@ -87,7 +42,7 @@ fn write_short(
 {
     lengthening::expand(shape, message, row, powers, logs);
     let c = layout::constant_of(shape, powers);
-    write_codeword(shape, row, c, codeword, powers, logs);
+    evaluation::write_codeword(shape, row, c, codeword, powers, logs);
 }
 
 // Writes the codeword of a message. Where groups are whole the message is its row, in powers of X to the power of the group size.
@@ -103,7 +58,7 @@ fn write_message(
 {
     let missing = layout::missing_of(shape) as usize;
     if missing == 0 {
-        write_codeword(shape, message, 0, codeword, powers, logs);
+        evaluation::write_codeword(shape, message, 0, codeword, powers, logs);
     } else {
         let long = message.len() + missing;
         let mut room = [0u8; 256];

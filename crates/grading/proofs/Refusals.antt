@@ -1,5 +1,4 @@
--- What the questions of the calls on marks say where they are passed. Assumes nothing.
---   marks-passed    the refusal of the numbers is 0, and there is a mark for every slot
+-- What the questions of grade say where they are passed. Assumes nothing.
 --   after-lengths   questions asked after those of the lengths of marks and work
 --   handed          what holds where no question of grade refuses
 use mathlib.Core.Path.{_≡_, ap, _∙_}
@@ -14,14 +13,8 @@ use Rattle.code.specs.Question.{ask, or-ask}
 use Rattle.code.specs.Work.{used}
 use Rattle.code.specs.Laws.{Decodable}
 use Rattle.code.proofs.Questions.{asked, ask-then, or-ask-passed}
-use Rattle.grading.specs.Grade.{marks-refusal, grade-refusal}
+use Rattle.grading.specs.Grade.{grade-refusal}
 use Rattle.grading.specs.Step.{lengths-refusal, Marked}
-
-pub marks-passed : (n : ℕ) (s : Shape) (ms : List ℕ) → marks-refusal n s ms ≡ 0 → (n ≡ 0) × (length ms ≡ s .n)
-unfolding marks-refusal
-marks-passed n s ms e =
-    let o = or-ask-passed n _ e in
-    (o .0, eqb→eq (length ms) (s .n) (asked (eqb (length ms) (s .n)) 4 _ (o .1) .0))
 
 -- x is what is answered so far
 pub after-lengths : (n : ℕ) (s : Shape) (m b x rest : ℕ) → x ≡ lengths-refusal n s m b

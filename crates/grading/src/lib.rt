@@ -1,4 +1,4 @@
-// The grade of a stripe by its marks, in a lent work buffer, and the calls that answer it, the losses and the first broken group.
+// The grade of a stripe by its marks, in a lent work buffer, and the call that answers it.
 ghost use mathlib.Core.Path.{_≡_};
 ghost use Prim.Native.Nat.{_+_, _*_, _≤_};
 ghost use lib.ListN.{length, replicate};
@@ -6,7 +6,7 @@ ghost use Rattle.code.specs.Erasure.{lost-number, first-broken, grade};
 ghost use Rattle.code.specs.Family.{single, code-refusal};
 ghost use Rattle.code.specs.Laws.{Placed, Plain, Decodable};
 ghost use Rattle.code.specs.Work.{cleared};
-ghost use Rattle.grading.specs.Grade.{marks-refusal, Grade-says, Losses-says, First-says};
+ghost use Rattle.grading.specs.Grade.{Grade-says};
 ghost use Rattle.grading.specs.Step.{counted, graded, lengths-refusal, Marked};
 use code::Answer;
 use code::Code;
@@ -78,14 +78,6 @@ pub fn graded_in(shape: Shape, marks: &[u8], work: &mut [u8]) -> Graded
     Graded { lost, grade, first }
 }
 
-// The refusal of losses and first_broken after that of the numbers, or 0.
-fn marks_refusal(refusal: u32, shape: Shape, marks: &[u8]) -> u32
-    ensures { λ x. ⌜ x ≡ marks-refusal refusal shape (now (marks .entry)) ⌝ }
-{
-    let a = questions::ask(refusal, marks.len() == shape.n as usize, 5);
-    questions::ask(a, questions::all_below(marks, 2), 8)
-}
-
 // The refusal of the numbers, or 5 where there is no mark for every slot or too little work; marks and work are their lengths.
 pub fn lengths_refusal(refusal: u32, shape: Shape, marks: usize, work: usize) -> u32
     requires { ⌜ (refusal ≡ 0 → Decodable shape) ⌝ }
@@ -121,33 +113,7 @@ pub fn grade_with(refusal: u32, shape: Shape, marks: &[u8], work: &mut [u8]) -> 
     }
 }
 
-// Answers how many slots are lost.
-pub fn losses_with(refusal: u32, shape: Shape, marks: &[u8]) -> Answer
-    requires { ⌜ (refusal ≡ 0 → Plain shape) ⌝ }
-    ensures { λ x. ⌜ Losses-says refusal shape (now (marks .entry)) x ⌝ }
-{
-    let refusal = marks_refusal(refusal, shape, marks);
-    if refusal != 0 {
-        return Answer { refusal, value: 0 };
-    }
-    let value = losses::count_lost(shape, marks);
-    Answer { refusal, value }
-}
-
-// Answers the first group with more losses than it stands, 255 if none.
-pub fn first_with(refusal: u32, shape: Shape, marks: &[u8]) -> Answer
-    requires { ⌜ (refusal ≡ 0 → Plain shape) ⌝ }
-    ensures { λ x. ⌜ First-says refusal shape (now (marks .entry)) x ⌝ }
-{
-    let refusal = marks_refusal(refusal, shape, marks);
-    if refusal != 0 {
-        return Answer { refusal, value: 0 };
-    }
-    let value = losses::first_group(shape, marks);
-    Answer { refusal, value }
-}
-
-// The three calls on a code of the paper.
+// The call on a code of the paper.
 pub fn grade(code: Code, marks: &[u8], work: &mut [u8]) -> Answer
     ensures { λ x. ⌜ Grade-says (code-refusal code) (single code) (now (marks .entry)) x (now (work .entry)) (now (work .exit)) ⌝ }
 {
@@ -156,25 +122,5 @@ pub fn grade(code: Code, marks: &[u8], work: &mut [u8]) -> Answer
         acceptance::single(code),
         marks,
         work,
-    )
-}
-
-pub fn losses(code: Code, marks: &[u8]) -> Answer
-    ensures { λ x. ⌜ Losses-says (code-refusal code) (single code) (now (marks .entry)) x ⌝ }
-{
-    losses_with(
-        acceptance::code_refusal(code),
-        acceptance::single(code),
-        marks,
-    )
-}
-
-pub fn first_broken(code: Code, marks: &[u8]) -> Answer
-    ensures { λ x. ⌜ First-says (code-refusal code) (single code) (now (marks .entry)) x ⌝ }
-{
-    first_with(
-        acceptance::code_refusal(code),
-        acceptance::single(code),
-        marks,
     )
 }

@@ -1,3 +1,1 @@
-pub mod Slots
 pub mod Texts
-pub mod Promises

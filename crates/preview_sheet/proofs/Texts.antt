@@ -18,7 +18,8 @@ use Rattle.sheet.specs.Calls.{sheet-refusal}
 use Rattle.sheet.specs.declared.Sheet.{Sheet}
 use Rattle.sheet.proofs.Reading.{Told}
 use Rattle.text.specs.Text.{refused-line}
-use Rattle.preview_sheet.specs.Text.{preview-lines, preview-text}
+use Rattle.preview_lines.specs.Lines.{preview-lines}
+use Rattle.preview_sheet.specs.Text.{preview-text}
 
 pub refused-text : (s : List ℕ) (m : ℕ) → m ≡ sheet-refusal s → m ≢ 0 → refused-line m ≡ preview-text s
 unfolding preview-text

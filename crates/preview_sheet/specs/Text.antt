@@ -1,46 +1,18 @@
 -- The preview of a sheet as text, byte by byte, and what the call that writes it answers. Assumes nothing: these are definitions.
---   joined f n             == what f gives for 0, 1, .. n - 1, one behind the other
---   slot-line p g f        == the line of a slot: the grade and the first broken group that follow its loss
---   kept-line s ms p       == the line of slot p where it is kept, else nothing
---   safe s ms p            == slot p is kept, and without it too the kept slots decide every message
---   safe-slot s ms p       == a space and slot p where it is safe, else nothing
---   preview-lines s ms     == a line for each kept slot, and last the safe ones
 --   preview-text s         == the preview of the sheet s, or the line of its refusal
 --   Sheet-preview-says     == the preview stands in front of the text, and its length is the answer; 5 where the text is too short
 use mathlib.Core.Path.{_≡_}
-use mathlib.Core.Bool.{Bool, not, _&&_, cond}
-use mathlib.Core.List.{List, [], _++_}
-use Prim.Native.Nat.{ℕ, zero, suc, _≤_, _<_}
+use mathlib.Core.Bool.{cond}
+use mathlib.Core.List.{List, _++_}
+use Prim.Native.Nat.{ℕ, _≤_, _<_}
 use lib.Dec.{eqb}
 use lib.ListN.{length, drop}
-use Rattle.code.specs.Decoding.{lost, undecided}
-use Rattle.code.specs.Erasure.{grade, first-broken}
 use Rattle.code.specs.Family.{single}
-use Rattle.code.specs.declared.Shape.{Shape}
 use Rattle.code.specs.declared.Answer.{Answer}
-use Rattle.previewing.specs.Preview.{marked}
 use Rattle.sheet.specs.Sheet.{code-in, marks-in}
 use Rattle.sheet.specs.Calls.{sheet-refusal}
-use Rattle.text.specs.Text.{ascii, spaced, named, grade-end, refused-line}
-
-unfoldable pub joined : (ℕ → List ℕ) → ℕ → List ℕ
-joined f zero = []
-joined f (suc n) = joined f n ++ f n
-
-unfoldable pub slot-line : (slot grade first : ℕ) → List ℕ
-slot-line p g f = named "slot" p ++ grade-end g f
-
-unfoldable pub kept-line : Shape → (marks : List ℕ) → (slot : ℕ) → List ℕ
-kept-line s ms p = cond (lost ms p) [] (slot-line p (grade s (marked ms p)) (first-broken s (marked ms p)))
-
-unfoldable pub safe : Shape → (marks : List ℕ) → (slot : ℕ) → Bool
-safe s ms p = not (lost ms p) && not (undecided s (marked ms p))
-
-unfoldable pub safe-slot : Shape → (marks : List ℕ) → (slot : ℕ) → List ℕ
-safe-slot s ms p = cond (safe s ms p) (spaced p) []
-
-unfoldable pub preview-lines : Shape → (marks : List ℕ) → List ℕ
-preview-lines s ms = joined (kept-line s ms) (s .n) ++ ascii "safe" ++ joined (safe-slot s ms) (s .n) ++ ascii "\n"
+use Rattle.text.specs.Text.{refused-line}
+use Rattle.preview_lines.specs.Lines.{preview-lines}
 
 unfoldable pub preview-text : (sheet : List ℕ) → List ℕ
 preview-text s = cond (eqb (sheet-refusal s) 0) (preview-lines (single (code-in s)) (marks-in s)) (refused-line (sheet-refusal s))

@@ -15,7 +15,8 @@ use Rattle.code.specs.Erasure.{lost-number, first-broken, grade}
 use Rattle.code.specs.Question.{ask, or-ask}
 use Rattle.code.specs.Work.{used}
 use Rattle.code.proofs.Answers.{answers-in}
-use Rattle.grading.specs.Grade.{marks-refusal, grade-refusal, Losses-says, First-says}
+use Rattle.erasures.specs.Marks.{marks-refusal, Losses-says, First-says}
+use Rattle.grading.specs.Grade.{grade-refusal}
 use Rattle.grading.proofs.Replies.{answered as graded}
 use Rattle.previewing.specs.declared.Previewed.{Previewed}
 use Rattle.previewing.specs.Preview.{marked, preview-of}

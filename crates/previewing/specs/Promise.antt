@@ -14,7 +14,8 @@ use Rattle.code.specs.declared.Shape.{Shape}
 use Rattle.code.specs.Decoding.{lost}
 use Rattle.code.specs.Laws.{Family}
 use Rattle.code.specs.Work.{used}
-use Rattle.grading.specs.Grade.{Grade-says, Losses-says, First-says}
+use Rattle.erasures.specs.Marks.{Losses-says, First-says}
+use Rattle.grading.specs.Grade.{Grade-says}
 use Rattle.previewing.specs.declared.Previewed.{Previewed}
 use Rattle.previewing.specs.Preview.{marked, preview-refusal, Preview-says}
 

@@ -16,8 +16,8 @@ use Rattle.layout.specs.Step.{span}
 use Rattle.layout.proofs.Spans.{lent-span}
 use Rattle.weights.specs.Weights.{sixteen}
 use Rattle.weights.proofs.Sixteen.{take-sixteen}
-use Rattle.mending.specs.Step.{part-mates}
-use Rattle.mending.proofs.Members.{symbols-part}
+use Rattle.spans.specs.Span.{part-mates}
+use Rattle.spans.proofs.Members.{symbols-part}
 
 module _ (s : Shape) (p : ℕ) (h : p < s .n) (ws : List ℕ) where
   pub gathered : Placed s → (m k j i : ℕ) → first s j ≡ m → span s j ≡ k → j ≡ group s p → i ≡ member s p

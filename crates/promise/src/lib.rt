@@ -89,7 +89,7 @@ fn mates_in(shape: Shape, slot: u32, word: &[u8]) -> [u8; 16]
     let start = layout::first_of(shape, group) as usize;
     let end = start + layout::span_of(shape, group) as usize;
     let member = layout::member_of(shape, slot);
-    mending::mates_of(shape, group, &word[start..end], member)
+    spans::mates_of(shape, group, &word[start..end], member)
 }
 
 // Encodes a message, lets its lost slots hold other bytes, and repairs a slot from what its mates hold.

@@ -1,6 +1,6 @@
 use borrow.Author.Needs.{needs}
 use mathlib.Core.Path.{ap, _∙_}
-use Rattle.encode.specs.Step.{evaluated}
+use Rattle.evaluation.specs.Step.{evaluated}
 use Rattle.encode.proofs.Evaluated.{short-evaluated}
 use Rattle.encode.proofs.write_short.Statement.{statement}
 use Rattle.encode.proofs.write_short.Tie as tie

@@ -1,0 +1,3 @@
+pub mod Lines
+pub mod Promise
+pub mod Step
