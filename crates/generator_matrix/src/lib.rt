@@ -36,7 +36,7 @@ fn least(a: usize, b: usize) -> usize
 }
 
 // Writes head, head times x, head times x squared .. from `from` up to `to`.
-fn fill_run(
+pub fn fill_run(
     field: u32,
     x: u8,
     head: u8,

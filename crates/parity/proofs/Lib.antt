@@ -1,0 +1,14 @@
+pub mod Listed
+pub mod Defect
+pub mod Checking
+pub mod Splitting
+pub mod Values
+pub mod Last
+pub mod Sums
+pub mod Curves
+pub mod Messages
+pub mod Telling
+pub mod Counts
+pub mod Promises
+pub mod Rows
+pub mod Testing

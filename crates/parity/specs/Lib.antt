@@ -1,0 +1,3 @@
+pub mod Parity
+pub mod Step
+pub mod Promise
