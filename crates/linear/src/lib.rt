@@ -8,7 +8,7 @@ ghost use Rattle.linear.specs.System.{entry, residue, Echelon, Inserted,
 ghost use Rattle.linear.specs.Step.{Added, Apart, Ready, Went-through, Went-through-all, Backed, Bared};
 
 // The row at dst plus c times the row at src, len columns.
-fn add_row(field: u32, work: &mut [u8], dst: usize, src: usize, len: usize, c: u8)
+pub fn add_row(field: u32, work: &mut [u8], dst: usize, src: usize, len: usize, c: u8)
     requires { ⌜ (dst + len ≤ length (now work)) × (src + len ≤ length (now work)) × Apart dst src len ⌝ }
     ensures { λ r. ⌜ Added field (now (work .entry)) (now (work .exit)) dst src len c ⌝ }
 {
