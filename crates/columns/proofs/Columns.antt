@@ -1,16 +1,22 @@
 -- Columns of strips laid end to end, and sums over them, strip by strip. Assumes nothing.
 --   length-column, at-column
 --   column-alone  the one column of strips of length 1
+--   column-below  symbols of strips that are below a number are so in every column
 --   sums-none     no strip yet: every sum is 0
 --   sums-more     one strip more
 --   sums-all      all strips: the sums of weight times symbol
 use mathlib.Core.Path.{_≡_, sym, ap, ap₂, _∙_}
+use mathlib.Core.Bool.{true}
 use mathlib.Core.List.{List}
 use Prim.Native.Nat.{ℕ, _+_, _*_, _≤_, _<_}
 use native.Mathlib.Omega.{arith}
+use lib.Arith.{digits-lt}
+use lib.Dec.{T}
 use lib.ListN.{length, take, replicate, length-replicate}
 use lib.Seq.{length-take-le, getD-take}
-use Rattle.algebra.specs.Sequence.{at, tabulate, column}
+use Rattle.algebra.specs.Sequence.{at, tabulate, column, all-below}
+use Rattle.algebra.proofs.Booleans.{yes-true}
+use Rattle.algebra.proofs.Below.{all-below-at, all-below-intro}
 use Rattle.algebra.proofs.At.{at-zeros}
 use Rattle.algebra.proofs.Tabulate.{length-tabulate, at-tabulate, tabulate-is, tabulate-same}
 use Rattle.field.specs.Field.{plus, times}
@@ -32,6 +38,15 @@ column-alone r l xs one e =
     let g : length xs ≡ r * 1 = e ∙ ap (λ n. r * n) one in
     tabulate-is (λ m. at xs (m * l + 0)) 0 r (take r xs) (length-take-le r xs (omega arith))
     (λ m b. let j : m ≡ m * 1 + 0 = omega arith in getD-take r xs m 0 b ∙ ap (at xs) (j ∙ ap (λ n. m * n + 0) (sym one)))
+
+pub column-below : (r l : ℕ) (xs : List ℕ) (i q : ℕ) → i < l → length xs ≡ r * l → T (all-below q xs) → all-below q (column r l i xs) ≡ true
+column-below r l xs i q h e t = yes-true (all-below q c) (all-below-intro q c (λ m b. entry m (omega (arith, length-column r l xs i))))
+  where
+    c : List ℕ
+    c = column r l i xs
+
+    entry : (m : ℕ) → m < r → at c m < q
+    entry m b = rw (at-column r l xs i m b) (all-below-at q xs t (m * l + i) (omega (arith, digits-lt b h)))
 
 -- the sum over column i of the first j strips
 abbrev pub sum-of : (f : ℕ) → (ws : List ℕ) → (r l : ℕ) → (xs : List ℕ) → (j i : ℕ) → ℕ
