@@ -1,7 +1,7 @@
 // Repair and strip rebuild, of any shape whose groups stand one loss.
 ghost use mathlib.Core.Path.{_≡_};
 ghost use Rattle.code.specs.Family.{single, code-refusal};
-ghost use Rattle.code.specs.Laws.{Mending};
+ghost use Rattle.code.specs.Laws.{Decodable};
 ghost use Rattle.repair.specs.Mates.{mates-refusal, Repair-says, Rebuild-says};
 use code::Answer;
 use code::Code;
@@ -9,7 +9,7 @@ use code::Shape;
 
 // The refusal of repair and strip rebuild, or 0; l is the length of each mate's strip.
 fn mates_refusal(refusal: u32, shape: Shape, slot: u32, strips: &[u8], l: usize) -> u32
-    requires { ⌜ (refusal ≡ 0 → Mending shape) ⌝ }
+    requires { ⌜ (refusal ≡ 0 → Decodable shape) ⌝ }
     ensures { λ x. ⌜ x ≡ mates-refusal refusal shape slot l (now (strips .entry)) ⌝ }
 {
     let n = shape.n;
@@ -24,16 +24,17 @@ fn mates_refusal(refusal: u32, shape: Shape, slot: u32, strips: &[u8], l: usize)
     if d != 0 {
         return d;
     }
-    questions::ask(
-        d,
-        questions::strips_below(strips, tables::order(shape.field)),
-        6,
-    )
+    let q = tables::order(shape.field);
+    let e = questions::ask(d, questions::strips_below(strips, q), 6);
+    if e != 0 {
+        return e;
+    }
+    questions::ask(e, strip_parity::columns_held(shape, slot, strips, l), 9)
 }
 
 // The repair call over any shape.
 pub fn repair_with(refusal: u32, shape: Shape, slot: u32, mates: &[u8]) -> Answer
-    requires { ⌜ (refusal ≡ 0 → Mending shape) ⌝ }
+    requires { ⌜ (refusal ≡ 0 → Decodable shape) ⌝ }
     ensures { λ x. ⌜ Repair-says refusal shape slot (now (mates .entry)) x ⌝ }
 {
     let refused = mates_refusal(refusal, shape, slot, mates, 1);
@@ -65,7 +66,7 @@ pub fn repair(code: Code, slot: u32, mates: &[u8]) -> Answer
 
 // The strip rebuild call over any shape: the weights are made once, and what rebuilds the columns is handed nothing else of the slot.
 pub fn rebuild_with(refusal: u32, shape: Shape, slot: u32, strips: &[u8], output: &mut [u8]) -> u32
-    requires { ⌜ (refusal ≡ 0 → Mending shape) ⌝ }
+    requires { ⌜ (refusal ≡ 0 → Decodable shape) ⌝ }
     ensures { λ x. ⌜ Rebuild-says refusal shape slot (now (strips .entry)) x (now (output .entry)) (now (output .exit)) ⌝ }
 {
     let refused = mates_refusal(refusal, shape, slot, strips, output.len());

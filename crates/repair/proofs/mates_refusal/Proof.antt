@@ -5,14 +5,18 @@ use mathlib.Core.List.{List}
 use Prim.Native.Nat.{ℕ, _*_, _≤_}
 use native.Mathlib.Nat.{mul-le-mul}
 use native.Mathlib.Omega.{arith}
-use lib.Dec.{leb, ltb, eqb, leb→le}
+use lib.Dec.{leb, ltb, eqb, leb→le, ltb→lt, eqb→eq}
 use lib.ListN.{length}
 use Rattle.algebra.specs.Sequence.{all-below}
+use Rattle.algebra.proofs.Booleans.{yes-true}
 use Rattle.field.specs.Field.{q}
 use Rattle.code.specs.declared.Shape.{Shape}
 use Rattle.code.specs.Shape.{mates-number}
-use Rattle.code.specs.Laws.{Mending}
+use Rattle.code.specs.Laws.{Decodable}
+use Rattle.code.specs.Held.{columns-held}
 use Rattle.code.specs.Question.{ask, or-ask}
+use Rattle.code.proofs.Accepted.{mending}
+use Rattle.code.proofs.Mates.{mates-number-is}
 use Rattle.code.proofs.Questions.{ask-then, ask-and, or-ask-stop, or-ask-passed, asked}
 use Rattle.repair.specs.Mates.{strips-fit, mates-refusal}
 use Rattle.repair.proofs.mates_refusal.Statement.{statement}
@@ -21,7 +25,7 @@ use Rattle.repair.proofs.mates_refusal.Tie as tie
 -- the answers as they are asked for: b after the length of a strip, d after the slot
 module _ (n : ℕ) (s : Shape) (p l : ℕ) (xs : List ℕ) where
   abbrev last : ℕ
-  last = ask (all-below (q (s .field)) xs) 6 0
+  last = ask (all-below (q (s .field)) xs) 6 (ask (columns-held s p l xs) 9 0)
 
   after-length : (b : ℕ) → b ≡ or-ask (or-ask n (ask (leb 1 l) 5 0)) (ask (leb l 4096) 5 0)
       → or-ask b (ask (eqb (length xs) (mates-number s p * l)) 5 (ask (ltb p (s .n)) 7 last)) ≡ mates-refusal n s p l xs
@@ -39,6 +43,12 @@ module _ (n : ℕ) (s : Shape) (p l : ℕ) (xs : List ℕ) where
       let fit = eqb (length xs) (mates-number s p * l) in
       ap (λ d. or-ask d last) k ∙ ask-then (or-ask b (ask fit 5 0)) (ltb p (s .n)) 6 last ∙ ask-then b fit 4 (ask (ltb p (s .n)) 7 last)
       ∙ after-length b e
+
+  after-symbols : (b d e : ℕ) → b ≡ or-ask (or-ask n (ask (leb 1 l) 5 0)) (ask (leb l 4096) 5 0)
+      → d ≡ or-ask (or-ask b (ask (eqb (length xs) (mates-number s p * l)) 5 0)) (ask (ltb p (s .n)) 7 0) → e ≡ or-ask d (ask (all-below (q (s .field)) xs) 6 0)
+      → or-ask e (ask (columns-held s p l xs) 9 0) ≡ mates-refusal n s p l xs
+  after-symbols b d e i j k =
+      ap (λ e. or-ask e (ask (columns-held s p l xs) 9 0)) k ∙ ask-then d (all-below (q (s .field)) xs) 5 (ask (columns-held s p l xs) 9 0) ∙ after-slot b d i j
 
 -- after the length of a strip
 length-asked : (c : tie.After-ask2) → let a = c .before .before .before .args in
@@ -68,16 +78,17 @@ returns c =
     ∙ after-length (a .refusal) (a .shape) (a .slot) (a .l) (a .strips .now) (b .ask2 .result) (length-asked b)
 
 -- the numbers are in range here
-in-range : (c : tie.Else1) → let a = c .before .before .before .before .args in Mending (a .shape) × (a .l ≤ 4096)
+in-range : (c : tie.Else1) → let a = c .before .before .before .before .args in Decodable (a .shape) × (1 ≤ a .l) × (a .l ≤ 4096)
 in-range c =
     let b = c .before in
     let s = b .before .before .before in
     let a = s .args in
     let t = or-ask-passed (or-ask (a .refusal) (ask (leb 1 (a .l)) 5 0)) (ask (leb (a .l) 4096) 5 0) (sym (length-asked b) ∙ c .if1 .left) in
-    (s .pre (or-ask-passed (a .refusal) (ask (leb 1 (a .l)) 5 0) (t .0) .0), leb→le (a .l) 4096 (asked (leb (a .l) 4096) 4 0 (t .1) .0))
+    let u = or-ask-passed (a .refusal) (ask (leb 1 (a .l)) 5 0) (t .0) in
+    (s .pre (u .0), leb→le 1 (a .l) (asked (leb 1 (a .l)) 4 0 (u .1) .0), leb→le (a .l) 4096 (asked (leb (a .l) 4096) 4 0 (t .1) .0))
 
 mates-number-requires : tie.Need-mates-number-requires
-mates-number-requires c κs = in-range c .0
+mates-number-requires c κs = mending (c .before .before .before .before .args .shape) (in-range c .0)
 
 cast-wanted : tie.Need-cast-wanted
 cast-wanted c = search needs
@@ -85,7 +96,7 @@ cast-wanted c = search needs
 mul-wanted : tie.Need-mul-wanted
 mul-wanted c =
     let a = c .before .before .before .before .before .args in
-    let m : c .mates-number .result * a .l ≤ 16 * 4096 = mul-le-mul (c .mates-number .ensures .1) (in-range (c .before) .1) in
+    let m : c .mates-number .result * a .l ≤ 16 * 4096 = mul-le-mul (c .mates-number .ensures .1) (in-range (c .before) .2) in
     omega arith
 
 ask-requires-3 : tie.Need-ask-requires-3
@@ -111,14 +122,52 @@ strips-below-requires c κs = search needs
 ask-requires-5 : tie.Need-ask-requires-5
 ask-requires-5 c κs = search needs
 
-returns-3 : tie.Need-returns-3
-returns-3 c =
+-- after the symbols
+symbols-asked : (c : tie.After-ask5) → let d = c .before .before .before .before in let a = d .before .before .before .before .before .before .before .args in
+    c .ask5 .result ≡ or-ask (d .ask4 .result) (ask (all-below (q (a .shape .field)) (a .strips .now)) 6 0)
+symbols-asked c =
     let d = c .before .before .before .before in
-    let b = d .before .before .before .before in
-    let a = b .before .before .before .args in
+    let a = d .before .before .before .before .before .before .before .args in
     c .ask5 .ensures
     ∙ ap (λ t. or-ask (d .ask4 .result) (ask t 6 0)) (c .before .strips-below .ensures ∙ ap (λ m. all-below m (a .strips .now)) (c .before .before .order .ensures .0))
-    ∙ after-slot (a .refusal) (a .shape) (a .slot) (a .l) (a .strips .now) (b .ask2 .result) (d .ask4 .result) (length-asked b) (slot-asked d)
+
+-- so far, and the last question
+then-last : (c : tie.After-ask5) → let a = c .before .before .before .before .before .before .before .before .before .before .before .args in
+    or-ask (c .ask5 .result) (ask (columns-held (a .shape) (a .slot) (a .l) (a .strips .now)) 9 0) ≡ mates-refusal (a .refusal) (a .shape) (a .slot) (a .l) (a .strips .now)
+then-last c =
+    let d = c .before .before .before .before in
+    let b = d .before .before .before .before in
+    let a = c .before .before .before .before .before .before .before .before .before .before .before .args in
+    after-symbols (a .refusal) (a .shape) (a .slot) (a .l) (a .strips .now) (b .ask2 .result) (d .ask4 .result) (c .ask5 .result) (length-asked b) (slot-asked d) (symbols-asked c)
+
+returns-3 : tie.Need-returns-3
+returns-3 c = or-ask-stop (c .before .ask5 .result) _ (c .if3 .taken) ∙ then-last (c .before)
+
+columns-held-requires : tie.Need-columns-held-requires
+columns-held-requires c κs =
+    let e = c .before in
+    let d = e .before .before .before .before in
+    let b = d .before .before .before .before in
+    let a = e .before .before .before .before .before .before .before .before .before .before .before .args in
+    let R = in-range (d .before .before .before) in
+    let fit = eqb (length (a .strips .now)) (mates-number (a .shape) (a .slot) * a .l) in
+    let t = or-ask-passed (d .ask4 .result) (ask (all-below (q (a .shape .field)) (a .strips .now)) 6 0) (sym (symbols-asked e) ∙ c .if3 .left) in
+    let u = or-ask-passed (or-ask (b .ask2 .result) (ask fit 5 0)) (ask (ltb (a .slot) (a .shape .n)) 7 0) (sym (slot-asked d) ∙ t .0) in
+    let v = or-ask-passed (b .ask2 .result) (ask fit 5 0) (u .0) in
+    let h = ltb→lt (a .slot) (a .shape .n) (asked (ltb (a .slot) (a .shape .n)) 6 0 (u .1) .0) in (
+      R .0,
+      h,
+      R .1,
+      R .2,
+      eqb→eq (length (a .strips .now)) (mates-number (a .shape) (a .slot) * a .l) (asked fit 4 0 (v .1) .0) ∙ ap (λ k. k * a .l) (mates-number-is (a .shape) (a .slot) h),
+      yes-true (all-below (q (a .shape .field)) (a .strips .now)) (asked (all-below (q (a .shape .field)) (a .strips .now)) 5 0 (t .1) .0),
+    )
+
+ask-requires-6 : tie.Need-ask-requires-6
+ask-requires-6 c κs = search needs
+
+returns-4 : tie.Need-returns-4
+returns-4 c = c .ask6 .ensures ∙ ap (λ t. or-ask (c .before .before .before .ask5 .result) (ask t 9 0)) (c .before .columns-held .ensures) ∙ then-last (c .before .before .before)
 
 pub mates-refusal-spec : {M : Type 1} → statement M
 mates-refusal-spec =
@@ -136,4 +185,7 @@ mates-refusal-spec =
     order-requires
     strips-below-requires
     ask-requires-5
-    returns-3)
+    returns-3
+    columns-held-requires
+    ask-requires-6
+    returns-4)

@@ -1,6 +1,6 @@
 use borrow.Author.Needs.{needs}
 use mathlib.Core.Path.{sym, _∙_}
-use Rattle.code.proofs.Accepted.{mending-of}
+use Rattle.code.proofs.Accepted.{decodable-of}
 use Rattle.repair.proofs.rebuild.Statement.{statement}
 use Rattle.repair.proofs.rebuild.Tie as tie
 
@@ -13,7 +13,7 @@ single-requires c κs = search needs
 rebuild-with-requires : tie.Need-rebuild-with-requires
 rebuild-with-requires c κs =
     let s = c .before .before .before in
-    λ e. rw (c .before .single .ensures) (mending-of (s .before .before .args .code) (sym (c .before .before .code-refusal .ensures) ∙ e))
+    λ e. rw (c .before .single .ensures) (decodable-of (s .before .before .args .code) (sym (c .before .before .code-refusal .ensures) ∙ e))
 
 same-length : tie.Need-same-length
 same-length c = search needs

@@ -1,6 +1,6 @@
 use borrow.Author.Needs.{needs}
 use mathlib.Core.Path.{sym, _∙_}
-use Rattle.code.proofs.Accepted.{mending-of}
+use Rattle.code.proofs.Accepted.{decodable-of}
 use Rattle.repair.proofs.repair.Statement.{statement}
 use Rattle.repair.proofs.repair.Tie as tie
 
@@ -11,7 +11,7 @@ single-requires : tie.Need-single-requires
 single-requires c κs = search needs
 
 repair-with-requires : tie.Need-repair-with-requires
-repair-with-requires c κs = λ e. rw (c .single .ensures) (mending-of (c .before .before .before .args .code) (sym (c .before .code-refusal .ensures) ∙ e))
+repair-with-requires c κs = λ e. rw (c .single .ensures) (decodable-of (c .before .before .before .args .code) (sym (c .before .code-refusal .ensures) ∙ e))
 
 returns : tie.Need-returns
 returns c = rw (c .before .before .code-refusal .ensures, c .before .single .ensures) at (c .repair-with .ensures)
