@@ -1,4 +1,4 @@
-pub mod Members
+pub mod Held
 pub mod Mended
 pub mod Spliced
 pub mod Groups

@@ -21,7 +21,7 @@ use Rattle.code.proofs.Mates.{member-slot, member-own}
 use Rattle.layout.specs.Step.{span}
 use Rattle.layout.proofs.Spans.{Of-span, span-within, slot-in-span, member-inside, length-lent, lent-at, lent-span}
 use Rattle.mending.specs.Step.{Members-set}
-use Rattle.mending.proofs.Members.{member-group}
+use Rattle.spans.proofs.Members.{member-group}
 
 pub record Upto (s : Shape) (f : ℕ → ℕ) (j : ℕ) (a z : List ℕ) : Type 0 where
   pub same : length z ≡ length a

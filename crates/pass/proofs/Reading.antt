@@ -19,7 +19,7 @@ use Rattle.code.specs.Pass.{mendable}
 use Rattle.code.specs.Laws.{Mending}
 use Rattle.code.proofs.Places.{n-room, group-below, slot-group-member}
 use Rattle.code.proofs.Mates.{member-slot, member-own}
-use Rattle.mending.proofs.Members.{member-group}
+use Rattle.spans.proofs.Members.{member-group}
 use Rattle.pass.specs.Pass.{reads, reads-below}
 use Rattle.pass.specs.Step.{group-reads-below}
 

@@ -1,5 +1,5 @@
 -- What the local pass answers, and leaves in the word and the marks. Assumes nothing: these are definitions.
---   reads s ms p             == the pass reads slot p: a kept member of a group that it mends
+--   reads s ms p             == the pass reads slot p: a kept member of a group that can be mended
 --   reads-below s ws ms      == every symbol that it reads is below q
 --   pass-refusal n s ws ms   the refusal n of the code's numbers, then 5, 8, 6
 --   Pass-says                the word, the marks and the number of groups repaired; on a refusal nothing changes
@@ -33,6 +33,6 @@ pass-refusal n s ws ms =
     (ask (reads-below s ws ms) 6 0)))
 
 pub record Pass-says (n : ℕ) (s : Shape) (ws ms : List ℕ) (x : Answer) (ws′ ms′ : List ℕ) : Type 0 where
-  pub answer : Answers (pass-refusal n s ws ms) (mended s ms) x
+  pub answer : Answers (pass-refusal n s ws ms) (mended s ws ms) x
   pub word : ws′ ≡ cond (eqb (pass-refusal n s ws ms) 0) (passed s ws ms) ws
-  pub marks : ms′ ≡ cond (eqb (pass-refusal n s ws ms) 0) (marks-after s ms) ms
+  pub marks : ms′ ≡ cond (eqb (pass-refusal n s ws ms) 0) (marks-after s ws ms) ms

@@ -1,10 +1,10 @@
-// The local pass: groups that have lost one slot mend themselves.
+// The local pass: groups that have lost one slot mend themselves, where some codeword has the kept symbols.
 ghost use mathlib.Core.Path.{_≡_};
 ghost use Prim.Native.Nat.{_<_};
 ghost use lib.ListN.{length};
 ghost use Rattle.code.specs.Shape.{groups};
 ghost use Rattle.code.specs.Family.{single, code-refusal};
-ghost use Rattle.code.specs.Laws.{Mending};
+ghost use Rattle.code.specs.Laws.{Mending, Decodable};
 ghost use Rattle.pass.specs.Pass.{reads-below, pass-refusal, Pass-says};
 ghost use Rattle.pass.specs.Step.{group-reads-below};
 use code::Answer;
@@ -58,7 +58,7 @@ fn pass_refusal(refusal: u32, shape: Shape, word: &[u8], marks: &[u8]) -> u32
 
 // The local pass over any shape whose groups stand one loss.
 pub fn local_pass_with(refusal: u32, shape: Shape, word: &mut [u8], marks: &mut [u8]) -> Answer
-    requires { ⌜ (refusal ≡ 0 → Mending shape) ⌝ }
+    requires { ⌜ (refusal ≡ 0 → Decodable shape) ⌝ }
     ensures { λ x. ⌜ Pass-says refusal shape (now (word .entry)) (now (marks .entry)) x (now (word .exit)) (now (marks .exit)) ⌝ }
 {
     let refused = pass_refusal(refusal, shape, word, marks);
@@ -77,7 +77,7 @@ pub fn local_pass_with(refusal: u32, shape: Shape, word: &mut [u8], marks: &mut 
     }
 }
 
-// Repairs each group with exactly one loss in its own slots of the word, and unmarks it.
+// Repairs each group with exactly one loss in its own slots of the word, and unmarks it; leaves it where no codeword has its kept symbols.
 pub fn local_pass(code: Code, word: &mut [u8], marks: &mut [u8]) -> Answer
     ensures { λ x. ⌜ Pass-says (code-refusal code) (single code) (now (word .entry)) (now (marks .entry)) x (now (word .exit)) (now (marks .exit)) ⌝ }
 {

@@ -35,16 +35,16 @@ module _ (s : Shape) (ws ms : List ℕ) where
   unfolding mend restored
   mend-below p = let os = sources s ms (group s p) in dotted-below (s .field) (weights-over s os os p) (symbols-of ws os)
 
-  kept-after : kept-below s ws ms ≡ true → kept-below s (passed s ws ms) (marks-after s ms) ≡ true
+  kept-after : kept-below s ws ms ≡ true → kept-below s (passed s ws ms) (marks-after s ws ms) ≡ true
   unfolding kept-below lost
   kept-after k =
-      yes-true (kept-below s (passed s ws ms) (marks-after s ms))
-      (every-intro (λ p. lost (marks-after s ms) p || ltb (at (passed s ws ms) p) (q (s .field))) (s .n) (λ p h. go p h (mends s ms p) refl))
+      yes-true (kept-below s (passed s ws ms) (marks-after s ws ms))
+      (every-intro (λ p. lost (marks-after s ws ms) p || ltb (at (passed s ws ms) p) (q (s .field))) (s .n) (λ p h. go p h (mends s ws ms p) refl))
     where
-      go : (p : ℕ) → p < s .n → (b : Bool) → mends s ms p ≡ b → T (eqb (at (marks-after s ms) p) 1 || ltb (at (passed s ws ms) p) (q (s .field)))
+      go : (p : ℕ) → p < s .n → (b : Bool) → mends s ws ms p ≡ b → T (eqb (at (marks-after s ws ms) p) 1 || ltb (at (passed s ws ms) p) (q (s .field)))
       go p h true t =
           let w = at-passed s ws ms p h ∙ ap (λ b. cond b (mend s ws ms p) (at ws p)) t in
-          or-right (eqb (at (marks-after s ms) p) 1) (ltb (at (passed s ws ms) p) (q (s .field)))
+          or-right (eqb (at (marks-after s ws ms) p) 1) (ltb (at (passed s ws ms) p) (q (s .field)))
           (lt→ltb (at (passed s ws ms) p) (q (s .field)) (rw w (mend-below p)))
       go p h false t =
           let w = at-passed s ws ms p h ∙ ap (λ b. cond b (mend s ws ms p) (at ws p)) t in
@@ -52,20 +52,20 @@ module _ (s : Shape) (ws ms : List ℕ) where
           rw (w, m) (every-at (λ p. lost ms p || ltb (at ws p) (q (s .field))) (s .n) (so k) p h)
 
   -- what the pass leaves
-  module _ (vs ns : List ℕ) (v : vs ≡ passed s ws ms) (n : ns ≡ marks-after s ms) where
+  module _ (vs ns : List ℕ) (v : vs ≡ passed s ws ms) (n : ns ≡ marks-after s ws ms) where
     pub received-after : Received s ws ms → Received s vs ns
     unfolding passed marks-after
     received-after R =
         record {
           word = ap (λ l. length l) v ∙ length-tabulate (passed-at s ws ms) (s .n);
-          marks = ap (λ l. length l) n ∙ length-tabulate (mark-at s ms) (s .n);
+          marks = ap (λ l. length l) n ∙ length-tabulate (mark-at s ws ms) (s .n);
           kept = rw (v, n) (kept-after (R .kept));
         }
 
     pub verdict-after : Family s → length ws ≡ s .n → (a b : List ℕ) (y : ℕ) → Verdict s vs ns a b y → Verdict s ws ms a b y
     unfolding Before-and-after
     verdict-after F l a b y d =
-        verdict-same s ws ms (passed s ws ms) (marks-after s ms) a b y
+        verdict-same s ws ms (passed s ws ms) (marks-after s ws ms) a b y
         (λ ys f. sym (before-and-after s ws ms ys F l) ∙ f) (λ ys f. before-and-after s ws ms ys F l ∙ f) (rw (v, n) at d)
 
 pub tried : (s : Shape) (ws ms a z : List ℕ) (x : ℕ) → Verdict s ws ms a z x → Tried s ws ms a z x

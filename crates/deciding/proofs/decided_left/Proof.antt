@@ -3,7 +3,7 @@ use mathlib.Core.Path.{sym, ap, _∙_}
 use mathlib.Core.Bool.{not}
 use Prim.Native.Nat.{ℕ}
 use native.Mathlib.Omega.{arith}
-use lib.ListN.{replicate, length-replicate}
+use lib.ListN.{take, replicate, length-replicate}
 use lib.Seq.{length-take-le}
 use Rattle.code.specs.Decoding.{undecided}
 use Rattle.code.specs.Erasure.{lost-number}
@@ -26,11 +26,10 @@ slice-aggregate-mend-groups c =
 mend-groups-requires : tie.Need-mend-groups-requires
 mend-groups-requires c κs =
     let s = c .before .before .before .before .before in
-    let D = s .pre .0 in
-    let P = D .plain .family .placed in (
+    let P = s .pre .0 .plain .family .placed in (
       s .pre .3,
       s .pre .4,
-      record { placed = P; one = D .one },
+      s .pre .0,
       length-take-le (s .args .shape .n) (replicate 256 0) (omega (arith, n-most (s .args .shape) P, length-replicate {A = ℕ} 256 0)),
       s .pre .1,
     )
@@ -49,7 +48,7 @@ returns c =
     let s = c .before .before .before .before .before .before .before .before .before .before .before .before .before in
     let a = s .args in
     let m = c .before .before .before .before .before .before .before .mend-groups in
-    sym (ap not (decided-within (a .shape) (s .pre .0 .plain .family) (a .marks .now)
+    sym (ap not (decided-within (a .shape) (s .pre .0 .plain .family) (a .marks .now) (take (a .shape .n) (replicate 256 0))
     (omega (arith, ap (lost-number (a .shape)) (m .ensures .1), c .before .before .count-lost .ensures, c .before .guarantee-of .ensures, c .if1 .taken))))
 
 decided-past-requires : tie.Need-decided-past-requires
@@ -67,7 +66,7 @@ returns-2 c =
     let a = s .args in
     let m = c .before .before .before .before .before .before .before .before .before .before .before .before .mend-groups in
     c .before .before .decided-past .ensures ∙ ap (λ l. not (undecided (a .shape) l)) (m .ensures .1)
-    ∙ ap not (undecided-after (a .shape) (s .pre .0 .plain .family) (a .marks .now))
+    ∙ ap not (undecided-after (a .shape) (s .pre .0 .plain .family) (a .marks .now) (take (a .shape .n) (replicate 256 0)))
 
 pub decided-left-spec : {M : Type 1} → statement M
 decided-left-spec =

@@ -9,8 +9,9 @@ use Rattle.algebra.proofs.Counting.{count-zero, count-most}
 use Rattle.algebra.proofs.Splicing.{splice}
 use Rattle.code.specs.declared.Shape.{Shape}
 use Rattle.code.specs.Shape.{groups}
-use Rattle.code.specs.Pass.{mendable, passed, marks-after, mended}
+use Rattle.code.specs.Pass.{repairs, passed, marks-after, mended}
 use Rattle.code.proofs.Bounds.{n-most, groups-most}
+use Rattle.code.proofs.Accepted.{mending}
 use Rattle.code.proofs.Passing.{passed-at, mark-at}
 use Rattle.layout.specs.Step.{span}
 use Rattle.layout.proofs.Spans.{span-within, length-lent}
@@ -22,8 +23,8 @@ use Rattle.mending.proofs.mend_groups.Tie as tie
 -- the word, the marks and the number of groups repaired after j groups
 pub record Done (s : Shape) (ws ms : List ℕ) (j : ℕ) (ws′ ms′ : List ℕ) (number : ℕ) : Type 0 where
   pub word : Upto s (passed-at s ws ms) j ws ws′
-  pub marks : Upto s (mark-at s ms) j ms ms′
-  pub many : number ≡ count (mendable s ms) j
+  pub marks : Upto s (mark-at s ws ms) j ms ms′
+  pub many : number ≡ count (repairs s ws ms) j
 
 abbrev Inv-loop : tie.InvT-loop
 Inv-loop shape word₀ marks₀ powers logs all number₀ j₀ word marks number j = (j ≤ all) × Done shape word₀ marks₀ j word marks number
@@ -32,7 +33,7 @@ abbrev μ-loop : tie.MeasureT-loop
 μ-loop shape word₀ marks₀ powers logs all number₀ j₀ word marks number j = all - j
 
 groups-of-requires : tie.Need-groups-of-requires Inv-loop μ-loop
-groups-of-requires c κs = c .before .before .pre .2 .placed
+groups-of-requires c κs = c .before .before .pre .2 .plain .family .placed
 
 loop-holds : tie.Need-loop-holds Inv-loop μ-loop
 loop-holds c =
@@ -40,7 +41,7 @@ loop-holds c =
     let ws = a .word .now in
     let ms = a .marks .now in (
       omega arith,
-      record { word = upto-none (a .shape) (passed-at (a .shape) ws ms) ws; marks = upto-none (a .shape) (mark-at (a .shape) ms) ms; many = sym (count-zero (mendable (a .shape) ms)) },
+      record { word = upto-none (a .shape) (passed-at (a .shape) ws ms) ws; marks = upto-none (a .shape) (mark-at (a .shape) ws ms) ms; many = sym (count-zero (repairs (a .shape) ws ms)) },
     )
 
 -- the group is there
@@ -48,13 +49,13 @@ inside : (c : tie.In-loop Inv-loop μ-loop) → c .before .loop .j < groups (c .
 inside c = omega (arith, c .loop-test .taken, c .before .before .groups-of .ensures)
 
 first-of-requires : tie.Need-first-of-requires Inv-loop μ-loop
-first-of-requires c κs = (c .before .before .before .before .before .pre .2 .placed, inside c)
+first-of-requires c κs = (c .before .before .before .before .before .pre .2 .plain .family .placed, inside c)
 
 cast-start : tie.Need-cast-start Inv-loop μ-loop
 cast-start c = search needs
 
 span-of-requires : tie.Need-span-of-requires Inv-loop μ-loop
-span-of-requires c κs = (c .before .before .before .before .before .before .pre .2 .placed, inside (c .before))
+span-of-requires c κs = (c .before .before .before .before .before .before .pre .2 .plain .family .placed, inside (c .before))
 
 cast-end : tie.Need-cast-end Inv-loop μ-loop
 cast-end c = search needs
@@ -65,7 +66,7 @@ within : (c : tie.After-span-of Inv-loop μ-loop) → let s = c .before .before 
 within c =
     let s = c .before .before .before .before .before .before .before in
     let h = s .args .shape in
-    let P = s .pre .2 .placed in
+    let P = s .pre .2 .plain .family .placed in
     let m = c .before .first-of in (
       span-within h P (c .before .before .before .loop .j) (m .result) (c .span-of .result) (inside (c .before .before)) (sym (m .ensures)) (sym (c .span-of .ensures)),
       n-most h P,
@@ -107,7 +108,7 @@ mend-group-requires c κs =
     let f = c .before .before in
     let s = f .before .before .before .before .before .before .before in
     let h = s .args .shape in
-    let P = s .pre .2 .placed in
+    let P = s .pre .2 .plain .family .placed in
     let l = f .before .before .before .loop in
     let m = f .before .first-of in
     let b = inside (f .before .before) in
@@ -132,7 +133,7 @@ more c =
     let s = f .before .before .before .before .before .before .before in
     let a = s .args in
     let h = a .shape in
-    let M = s .pre .2 in
+    let M = mending h (s .pre .2) in
     let l = f .before .before .before .loop in
     let b = inside (f .before .before) in
     let m = f .before .first-of .result in
@@ -157,13 +158,13 @@ add-number c =
     let f = g .before .before .before in
     let s = f .before .before .before .before .before .before .before in
     let h = s .args .shape in
-    omega (arith, more g .many, count-most (mendable h (s .args .marks .now)) (f .before .before .before .loop .j + 1), inside (f .before .before), groups-most h (s .pre .2 .placed))
+    omega (arith, more g .many, count-most (repairs h (s .args .word .now) (s .args .marks .now)) (f .before .before .before .loop .j + 1), inside (f .before .before), groups-most h (s .pre .2 .plain .family .placed))
 
 add-j : tie.Need-add-j Inv-loop μ-loop
 add-j c =
     let f = c .before .before .before .before .before .before .before in
     let s = f .before .before .before .before .before .before .before in
-    omega (arith, inside (f .before .before), groups-most (s .args .shape) (s .pre .2 .placed))
+    omega (arith, inside (f .before .before), groups-most (s .args .shape) (s .pre .2 .plain .family .placed))
 
 loop-less : tie.Need-loop-less Inv-loop μ-loop
 loop-less c = omega arith
@@ -183,13 +184,13 @@ returns c =
     let s = c .before .before .before .before .before in
     let a = s .args in
     let h = a .shape in
-    let P = s .pre .2 .placed in
+    let P = s .pre .2 .plain .family .placed in
     let l = c .before .loop in
     let D = l .inv .1 in
     let j : l .j ≡ groups h = omega (arith, c .before .before .groups-of .ensures) in (
       upto-all h (passed-at h (a .word .now) (a .marks .now)) P (l .j) (a .word .now) (l .word) j (s .pre .3) (D .word),
-      upto-all h (mark-at h (a .marks .now)) P (l .j) (a .marks .now) (l .marks) j (s .pre .4) (D .marks),
-      D .many ∙ ap (count (mendable h (a .marks .now))) j,
+      upto-all h (mark-at h (a .word .now) (a .marks .now)) P (l .j) (a .marks .now) (l .marks) j (s .pre .4) (D .marks),
+      D .many ∙ ap (count (repairs h (a .word .now) (a .marks .now))) j,
     )
 
 pub mend-groups-spec : {M : Type 1} → statement M

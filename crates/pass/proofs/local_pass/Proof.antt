@@ -1,6 +1,6 @@
 use borrow.Author.Needs.{needs}
 use mathlib.Core.Path.{sym, _∙_}
-use Rattle.code.proofs.Accepted.{mending-of}
+use Rattle.code.proofs.Accepted.{decodable-of}
 use Rattle.pass.proofs.local_pass.Statement.{statement}
 use Rattle.pass.proofs.local_pass.Tie as tie
 
@@ -15,7 +15,7 @@ local-pass-with-requires c κs =
     let s = c .before .before in
     let code = s .before .before .before .before .args .code in
     λ e. let z = sym (s .before .code-refusal .ensures) ∙ e in
-    rw (s .single .ensures) (mending-of code z)
+    rw (s .single .ensures) (decodable-of code z)
 
 same-length : tie.Need-same-length
 same-length c = search needs

@@ -2,6 +2,7 @@ use borrow.Author.Needs.{needs}
 use mathlib.Core.Path.{_≡_, refl, sym, _∙_}
 use borrow.Author.Tests.{eq-eqb, ne-eqb}
 use Rattle.code.specs.Pass.{mended}
+use Rattle.code.proofs.Accepted.{mending}
 use Rattle.code.proofs.Answers.{answers-no, answers-yes}
 use Rattle.pass.specs.Pass.{pass-refusal}
 use Rattle.pass.proofs.Refusals.{pass-passed}
@@ -9,7 +10,7 @@ use Rattle.pass.proofs.local_pass_with.Statement.{statement}
 use Rattle.pass.proofs.local_pass_with.Tie as tie
 
 pass-refusal-requires : tie.Need-pass-refusal-requires
-pass-refusal-requires c κs = search needs
+pass-refusal-requires c κs = let s = c .before .before .before .before in λ e. mending (s .args .shape) (s .pre e)
 
 same-length : tie.Need-same-length
 same-length c = search needs
@@ -23,7 +24,7 @@ returns c =
     let n = pass-refusal (a .refusal) (a .shape) (a .word .now) (a .marks .now) in
     let e = c .before .pass-refusal .ensures in
     let t = ne-eqb n 0 (λ z. c .if1 .taken (e ∙ z)) in
-    record { answer = answers-no n (mended (a .shape) (a .marks .now)) _ e (c .if1 .taken) refl; word = rw t refl; marks = rw t refl }
+    record { answer = answers-no n (mended (a .shape) (a .word .now) (a .marks .now)) _ e (c .if1 .taken) refl; word = rw t refl; marks = rw t refl }
 
 power-table-requires : tie.Need-power-table-requires
 power-table-requires c κs = search needs
@@ -55,7 +56,7 @@ returns-2 c =
     let z = zero (c .before .before .before .before .before .before .before .before .before .before .before) in
     let t = eq-eqb n 0 z in
     let M = c .before .before .before .before .mend-groups .ensures in
-    record { answer = answers-yes n (mended (a .shape) (a .marks .now)) _ z refl (M .2); word = rw t (M .0); marks = rw t (M .1) }
+    record { answer = answers-yes n (mended (a .shape) (a .word .now) (a .marks .now)) _ z refl (M .2); word = rw t (M .0); marks = rw t (M .1) }
 
 pub local-pass-with-spec : {M : Type 1} → statement M
 local-pass-with-spec =

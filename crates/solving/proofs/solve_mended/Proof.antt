@@ -1,6 +1,5 @@
 use native.Mathlib.Omega.{arith}
 use borrow.Author.Needs.{needs}
-use Rattle.code.proofs.Accepted.{mending}
 use Rattle.solving.proofs.Mending.{received-after, verdict-after, tried, untried}
 use Rattle.solving.proofs.solve_mended.Statement.{statement}
 use Rattle.solving.proofs.solve_mended.Tie as tie
@@ -8,7 +7,7 @@ use Rattle.solving.proofs.solve_mended.Tie as tie
 mend-groups-requires : tie.Need-mend-groups-requires
 mend-groups-requires c κs =
     let s = c .before .before .before .before .before in
-    (s .pre .3, s .pre .4, mending (s .args .shape) (s .pre .0), s .pre .1 .word, s .pre .1 .marks)
+    (s .pre .3, s .pre .4, s .pre .0, s .pre .1 .word, s .pre .1 .marks)
 
 count-lost-requires : tie.Need-count-lost-requires
 count-lost-requires c κs =
