@@ -95,7 +95,7 @@ pub fn put_mended(code: Code, answer: Answer, word: &[u8], marks: &[u8]) {
 
 // The first group with more losses than it stands.
 pub fn breaks(code: Code, marks: &[u8]) {
-    put_value(b"first ", code, grading::first_broken(code, marks));
+    put_value(b"first ", code, erasures::first_broken(code, marks));
 }
 
 // Work for the longest code, which need not be clear.

@@ -3,6 +3,7 @@
 mod calls;
 mod corners;
 mod short;
+mod told;
 mod wired;
 
 // The classroom sheet's code N: encoding.
@@ -122,6 +123,7 @@ fn main() {
     questions();
     short_questions();
     other_codes();
+    told::told_mates();
     wired::wired_codes();
     short::short_codes();
     corners::corners();

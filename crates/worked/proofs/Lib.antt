@@ -1,4 +1,5 @@
 pub mod Quick
 pub mod Deciding
 pub mod ShortCases
+pub mod ToldCases
 pub mod Cases

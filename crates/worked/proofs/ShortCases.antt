@@ -3,6 +3,7 @@
 --   short-cases-hold    the end of the table of specs/Case.antt
 --   a & b               the proof of a case, and of the cases after it
 use mathlib.Core.Path.{_≡_, refl, _∙_}
+use mathlib.Core.Logic.{inr}
 use mathlib.Core.List.{[], _∷_}
 use native.Mathlib.Omega.{arith}
 use lib.Dec.{lit<, lit≤}
@@ -18,7 +19,7 @@ use Rattle.code.specs.Codeword.{is-message, value-from, value, symbol, encoded,
 use Rattle.code.specs.Decoding.{lost, agrees}
 use Rattle.code.specs.Erasure.{lost-number, group-losses, stands, first-from, first-broken, grade}
 use Rattle.code.specs.Repair.{weight-over, weights-over, restored, weights, repaired, symbols-of}
-use Rattle.code.specs.Pass.{kept-from, kept-places, sources, mendable, mends, mend, passed, marks-after, mended}
+use Rattle.code.specs.Pass.{mendable}
 use Rattle.code.specs.Family.{code-of, single, field-known, r-fits, n-fits, least, k-fits, wiring-fits, code-refusal}
 use Rattle.code.specs.Laws.{Family}
 use Rattle.code.specs.Promise.{Accepted}
@@ -28,7 +29,7 @@ use Rattle.words.specs.Word.{word-bytes, bytes, word-at, code-word, kept-word, 
 use Rattle.sheet.specs.Sheet.{sheet-words, middle-word, code-in, symbols-in, marks-in}
 use Rattle.worked.specs.Case.{Holds, byte-message, S, short-message, short-word, T, short-bytes, U, L, short-cases}
 use Rattle.worked.proofs.Quick.{raised, place-point, points-from, inverted, weighed, weights-by, repaired-by, vanish-by, sum-by, symbol-by, drawn-by, drawn-short}
-use Rattle.worked.proofs.Deciding.{covered, first-differs, passed-to, within, past, foreign, undecided, graded-three, graded-four, previewed}
+use Rattle.worked.proofs.Deciding.{covered, restorable, left-after, first-differs, holds, any-held, pass-to, with-pass, within, past, foreign, undecided, graded-three, graded-four, previewed}
 
 abbrev SS : Shape
 SS = single S
@@ -86,7 +87,7 @@ pub _&_ : {A B : Type 0} → A → B → A × B
 a & b = (a, b)
 
 pub short-cases-hold : Each Holds short-cases
-unfolding marked preview-of covered drawn-by symbol-by sum-by vanish-by place-point raised inverted weighed agrees tabulate-from tabulate count every all-below q γ xor-from plus minus doubled times-from times power inverse dotted ask ceiling size groups room missing whole wired field-known r-fits n-fits least k-fits wiring-fits code-refusal group member first step slot-at members point-at point exponent constant good vanish-from vanishing lead short-basis basis degree most-shared is-message value-from value symbol encoded lost lost-number group-losses stands first-from first-broken guarantee grade others-from others mates mates-number weight-over weights-over restored weights repaired symbols-of kept-from kept-places sources mendable mends mend passed marks-after mended word-bytes bytes word-at code-word kept-word lost-word end-word slot-word word-symbol word-mark sheet-words middle-word code-in symbols-in marks-in
+unfolding marked preview-of covered drawn-by symbol-by sum-by vanish-by place-point raised inverted weighed agrees tabulate-from tabulate count every all-below q γ xor-from plus minus doubled times-from times power inverse dotted ask ceiling size groups room missing whole wired field-known r-fits n-fits least k-fits wiring-fits code-refusal group member first step slot-at members point-at point exponent constant good vanish-from vanishing lead short-basis basis degree most-shared is-message value-from value symbol encoded lost lost-number group-losses stands first-from first-broken guarantee grade others-from others mates mates-number weight-over weights-over restored weights repaired symbols-of mendable restorable left-after word-bytes bytes word-at code-word kept-word lost-word end-word slot-word word-symbol word-mark sheet-words middle-word code-in symbols-in marks-in
 short-cases-hold =
     refl
     & refl
@@ -198,16 +199,16 @@ short-cases-hold =
     & (refl, lit< tt, weights-by U refl 7 (lit< tt) ∙ refl)
     & (refl, lit< tt, weights-by O refl 12 (lit< tt) ∙ refl)
     & (refl, lit< tt, weights-by L refl 249 (lit< tt) ∙ refl)
-    & (refl, lit< tt, refl, refl, refl)
-    & (refl, lit< tt, refl, refl, refl)
-    & (refl, lit< tt, refl, refl, refl)
-    & (refl, lit< tt, refl, refl, refl)
-    & (refl, lit< tt, refl, refl, refl)
-    & (refl, lit< tt, refl, refl, refl)
-    & (refl, lit< tt, refl, refl, repaired-by T 7 (218 ∷ 144 ∷ []) (weights-by T refl 7 (lit< tt)) ∙ refl)
-    & (refl, lit< tt, refl, refl, repaired-by U 7 (1 ∷ []) (weights-by U refl 7 (lit< tt)) ∙ refl)
-    & (refl, lit< tt, refl, refl, repaired-by O 12 (1 ∷ 2 ∷ 3 ∷ 4 ∷ 5 ∷ 6 ∷ 7 ∷ 8 ∷ 9 ∷ 10 ∷ 11 ∷ 12 ∷ []) (weights-by O refl 12 (lit< tt)) ∙ refl)
-    & (refl, lit< tt, refl, refl, repaired-by L 249 (1 ∷ 2 ∷ 3 ∷ 4 ∷ 5 ∷ 6 ∷ 7 ∷ 8 ∷ 9 ∷ 10 ∷ 11 ∷ []) (weights-by L refl 249 (lit< tt)) ∙ refl)
+    & (refl, lit< tt, refl, refl, holds SS s-family short-message short-word refl s-encoded (6 ∷ 7 ∷ []) (4 ∷ 8 ∷ []) refl, refl)
+    & (refl, lit< tt, refl, refl, holds SS s-family short-message short-word refl s-encoded (10 ∷ []) (7 ∷ []) refl, refl)
+    & (refl, lit< tt, refl, refl, holds SS s-family short-message short-word refl s-encoded (9 ∷ []) (5 ∷ []) refl, refl)
+    & (refl, lit< tt, refl, refl, any-held (code-of 0 3 6 2 0) refl 5 (lit< tt) (inr (lit< tt)) (1 ∷ []) refl refl, refl)
+    & (refl, lit< tt, refl, refl, any-held (code-of 0 11 5 4 0) refl 4 (lit< tt) (inr (lit< tt)) (1 ∷ 2 ∷ 3 ∷ 4 ∷ []) refl refl, refl)
+    & (refl, lit< tt, refl, refl, any-held (code-of 0 2 2 1 0) refl 1 (lit< tt) (inr (lit< tt)) (1 ∷ []) refl refl, refl)
+    & (refl, lit< tt, refl, refl, holds ST t-family byte-message short-bytes refl t-encoded (5 ∷ 6 ∷ []) (218 ∷ 144 ∷ []) refl, repaired-by T 7 (218 ∷ 144 ∷ []) (weights-by T refl 7 (lit< tt)) ∙ refl)
+    & (refl, lit< tt, refl, refl, any-held U refl 7 (lit< tt) (inr (lit< tt)) (1 ∷ []) refl refl, repaired-by U 7 (1 ∷ []) (weights-by U refl 7 (lit< tt)) ∙ refl)
+    & (refl, lit< tt, refl, refl, any-held O refl 12 (lit< tt) (inr (lit< tt)) (1 ∷ 2 ∷ 3 ∷ 4 ∷ 5 ∷ 6 ∷ 7 ∷ 8 ∷ 9 ∷ 10 ∷ 11 ∷ 12 ∷ []) refl refl, repaired-by O 12 (1 ∷ 2 ∷ 3 ∷ 4 ∷ 5 ∷ 6 ∷ 7 ∷ 8 ∷ 9 ∷ 10 ∷ 11 ∷ 12 ∷ []) (weights-by O refl 12 (lit< tt)) ∙ refl)
+    & (refl, lit< tt, refl, refl, any-held L refl 249 (lit< tt) (inr (lit< tt)) (1 ∷ 2 ∷ 3 ∷ 4 ∷ 5 ∷ 6 ∷ 7 ∷ 8 ∷ 9 ∷ 10 ∷ 11 ∷ []) refl refl, repaired-by L 249 (1 ∷ 2 ∷ 3 ∷ 4 ∷ 5 ∷ 6 ∷ 7 ∷ 8 ∷ 9 ∷ 10 ∷ 11 ∷ []) (weights-by L refl 249 (lit< tt)) ∙ refl)
     & (refl, refl)
     & (refl, refl)
     & (refl, refl)
@@ -215,18 +216,18 @@ short-cases-hold =
     & (refl, lit< tt, refl)
     & (refl, refl)
     & (refl, refl)
-    & (refl, graded-three SS s-family (0 ∷ 0 ∷ 1 ∷ 0 ∷ 0 ∷ 1 ∷ 0 ∷ 0 ∷ 1 ∷ 1 ∷ 1 ∷ []) refl refl refl (lit≤ tt))
+    & (refl, graded-three SS s-family short-message short-word refl s-encoded (0 ∷ 0 ∷ 1 ∷ 0 ∷ 0 ∷ 1 ∷ 0 ∷ 0 ∷ 1 ∷ 1 ∷ 1 ∷ []) refl refl refl (lit≤ tt))
     & (refl, refl)
     & (refl, refl)
     & (refl, refl)
     & (refl, refl)
     & (refl, refl)
-    & (refl, refl, refl, refl)
-    & (refl, refl, refl, refl)
-    & (refl, refl, refl, refl)
-    & (refl, refl, refl, refl)
-    & (refl, passed-to ST t-family byte-message short-bytes refl t-encoded (255 ∷ 218 ∷ 169 ∷ 88 ∷ 134 ∷ 218 ∷ 255 ∷ 126 ∷ []) (1 ∷ 0 ∷ 0 ∷ 0 ∷ 0 ∷ 0 ∷ 1 ∷ 0 ∷ []) short-bytes refl refl refl, refl, refl)
-    & (refl, passed-to ST t-family byte-message short-bytes refl t-encoded (184 ∷ 218 ∷ 255 ∷ 88 ∷ 134 ∷ 255 ∷ 144 ∷ 255 ∷ []) (0 ∷ 0 ∷ 1 ∷ 0 ∷ 0 ∷ 1 ∷ 0 ∷ 1 ∷ []) (184 ∷ 218 ∷ 169 ∷ 88 ∷ 134 ∷ 255 ∷ 144 ∷ 255 ∷ []) refl refl refl, refl, refl)
+    & with-pass refl (pass-to SS s-family short-message short-word refl s-encoded (255 ∷ 10 ∷ 12 ∷ 255 ∷ 4 ∷ 9 ∷ 255 ∷ 8 ∷ 7 ∷ 5 ∷ 255 ∷ []) (1 ∷ 0 ∷ 0 ∷ 1 ∷ 0 ∷ 0 ∷ 1 ∷ 0 ∷ 0 ∷ 0 ∷ 1 ∷ []) refl refl _ _ _ refl refl refl)
+    & with-pass refl (pass-to SS s-family short-message short-word refl s-encoded (255 ∷ 10 ∷ 12 ∷ 255 ∷ 255 ∷ 9 ∷ 4 ∷ 8 ∷ 7 ∷ 255 ∷ 7 ∷ []) (1 ∷ 0 ∷ 0 ∷ 1 ∷ 1 ∷ 0 ∷ 0 ∷ 0 ∷ 0 ∷ 1 ∷ 0 ∷ []) refl refl _ _ _ refl refl refl)
+    & with-pass refl (pass-to SS s-family short-message short-word refl s-encoded (5 ∷ 10 ∷ 12 ∷ 11 ∷ 4 ∷ 9 ∷ 4 ∷ 8 ∷ 7 ∷ 255 ∷ 255 ∷ []) (0 ∷ 0 ∷ 0 ∷ 0 ∷ 0 ∷ 0 ∷ 0 ∷ 0 ∷ 0 ∷ 1 ∷ 1 ∷ []) refl refl _ _ _ refl refl refl)
+    & with-pass refl (pass-to SS s-family short-message short-word refl s-encoded (255 ∷ 255 ∷ 12 ∷ 11 ∷ 4 ∷ 9 ∷ 4 ∷ 8 ∷ 7 ∷ 5 ∷ 255 ∷ []) (1 ∷ 1 ∷ 0 ∷ 0 ∷ 0 ∷ 0 ∷ 0 ∷ 0 ∷ 0 ∷ 0 ∷ 1 ∷ []) refl refl _ _ _ refl refl refl)
+    & with-pass refl (pass-to ST t-family byte-message short-bytes refl t-encoded (255 ∷ 218 ∷ 169 ∷ 88 ∷ 134 ∷ 218 ∷ 255 ∷ 126 ∷ []) (1 ∷ 0 ∷ 0 ∷ 0 ∷ 0 ∷ 0 ∷ 1 ∷ 0 ∷ []) refl refl _ _ _ refl refl refl)
+    & with-pass refl (pass-to ST t-family byte-message short-bytes refl t-encoded (184 ∷ 218 ∷ 255 ∷ 88 ∷ 134 ∷ 255 ∷ 144 ∷ 255 ∷ []) (0 ∷ 0 ∷ 1 ∷ 0 ∷ 0 ∷ 1 ∷ 0 ∷ 1 ∷ []) refl refl _ _ _ refl refl refl)
     & (refl, within SS s-family short-message short-word refl s-encoded _ _ refl (lit≤ tt))
     & (refl, within SS s-family short-message short-word refl s-encoded _ _ refl (lit≤ tt))
     & (refl, past SS s-family short-message short-word refl s-encoded _ _ refl refl (lit≤ tt))
@@ -238,8 +239,8 @@ short-cases-hold =
     & (refl, foreign SS s-family short-message short-word refl s-encoded _ _ (0 ∷ 0 ∷ 0 ∷ 0 ∷ 0 ∷ 0 ∷ 0 ∷ 0 ∷ 0 ∷ 0 ∷ 1 ∷ []) 10 refl refl (lit≤ tt) (lit< tt) refl (λ z. omega arith))
     & (refl, within ST t-family byte-message short-bytes refl t-encoded _ _ refl (lit≤ tt))
     & (refl, past ST t-family byte-message short-bytes refl t-encoded _ _ refl refl (lit≤ tt))
-    & (refl, graded-three ST t-family (1 ∷ 0 ∷ 0 ∷ 0 ∷ 0 ∷ 1 ∷ 1 ∷ 0 ∷ []) refl refl refl (lit≤ tt))
-    & (refl, lit< tt, previewed ST 0 (0 ∷ 0 ∷ 0 ∷ 0 ∷ 0 ∷ 1 ∷ 1 ∷ 0 ∷ []) (1 ∷ 0 ∷ 0 ∷ 0 ∷ 0 ∷ 1 ∷ 1 ∷ 0 ∷ []) refl refl (graded-three ST t-family (1 ∷ 0 ∷ 0 ∷ 0 ∷ 0 ∷ 1 ∷ 1 ∷ 0 ∷ []) refl refl refl (lit≤ tt)) refl)
+    & (refl, graded-three ST t-family byte-message short-bytes refl t-encoded (1 ∷ 0 ∷ 0 ∷ 0 ∷ 0 ∷ 1 ∷ 1 ∷ 0 ∷ []) refl refl refl (lit≤ tt))
+    & (refl, lit< tt, previewed ST 0 (0 ∷ 0 ∷ 0 ∷ 0 ∷ 0 ∷ 1 ∷ 1 ∷ 0 ∷ []) (1 ∷ 0 ∷ 0 ∷ 0 ∷ 0 ∷ 1 ∷ 1 ∷ 0 ∷ []) refl refl (graded-three ST t-family byte-message short-bytes refl t-encoded (1 ∷ 0 ∷ 0 ∷ 0 ∷ 0 ∷ 1 ∷ 1 ∷ 0 ∷ []) refl refl refl (lit≤ tt)) refl)
     & (refl, undecided ST t-family byte-message short-bytes refl t-encoded (68 ∷ 140 ∷ 238 ∷ 5 ∷ 255 ∷ []) _ refl t-rival (first-differs _ _ (λ z. omega arith)) _ _ refl refl)
     & (refl, graded-four ST t-family byte-message short-bytes refl t-encoded (68 ∷ 140 ∷ 238 ∷ 5 ∷ 255 ∷ []) _ refl t-rival (first-differs _ _ (λ z. omega arith)) (0 ∷ 0 ∷ 0 ∷ 0 ∷ 0 ∷ 1 ∷ 1 ∷ 1 ∷ []) refl)
     & (refl, lit< tt, previewed ST 7 (0 ∷ 0 ∷ 0 ∷ 0 ∷ 0 ∷ 1 ∷ 1 ∷ 0 ∷ []) (0 ∷ 0 ∷ 0 ∷ 0 ∷ 0 ∷ 1 ∷ 1 ∷ 1 ∷ []) refl refl (graded-four ST t-family byte-message short-bytes refl t-encoded (68 ∷ 140 ∷ 238 ∷ 5 ∷ 255 ∷ []) _ refl t-rival (first-differs _ _ (λ z. omega arith)) (0 ∷ 0 ∷ 0 ∷ 0 ∷ 0 ∷ 1 ∷ 1 ∷ 1 ∷ []) refl) refl)

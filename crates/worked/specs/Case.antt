@@ -2,21 +2,23 @@
 --   Case         a case: a question to the definitions with its answer
 --   Holds        what a case claims
 --   cases        the table
+--   told-cases   where k is below r, so that not all mates are some codeword's; then short-cases
 --   short-cases  its end: codes whose last group is short, or that would have such a group
 --   Cases-hold   every case of the table holds
 use mathlib.Core.Path.{_≡_}
-use mathlib.Core.Bool.{true}
+use mathlib.Core.Bool.{true, false}
 use mathlib.Core.List.{List, [], _∷_}
 use Prim.Native.Nat.{ℕ, _<_}
 use lib.ListN.{length}
 use Rattle.algebra.specs.Sequence.{tabulate-from, tabulate, all-below, Each}
 use Rattle.field.specs.Field.{q, times}
 use Rattle.code.specs.declared.Code.{Code}
-use Rattle.code.specs.Shape.{missing, point, mates-number}
+use Rattle.code.specs.Shape.{missing, point, mates, mates-number}
 use Rattle.code.specs.Basis.{most-shared}
 use Rattle.code.specs.Codeword.{encoded, guarantee}
 use Rattle.code.specs.Erasure.{first-broken, grade}
 use Rattle.code.specs.Repair.{weights, repaired}
+use Rattle.code.specs.Held.{held}
 use Rattle.code.specs.Pass.{passed, marks-after, mended}
 use Rattle.code.specs.Family.{code-of, single, code-refusal}
 use Rattle.code.specs.Verdict.{Verdict}
@@ -36,7 +38,9 @@ pub data Case : Type 0 where
   shares : (c : Code) (most : ℕ) → Case
   encodes : (c : Code) (message word : List ℕ) → Case
   weighs : (c : Code) (slot : ℕ) (weights : List ℕ) → Case
+  -- repair answers 0 with this symbol; 9, as no codeword has the mates
   repairs : (c : Code) (slot : ℕ) (mates : List ℕ) (answer : ℕ) → Case
+  refuses : (c : Code) (slot : ℕ) (mates : List ℕ) → Case
   -- decoding answers 0 with this message; 9 or 10, with the buffer unchanged
   decodes : (c : Code) (word marks message : List ℕ) → Case
   declines : (c : Code) (word marks : List ℕ) (number : ℕ) → Case
@@ -60,14 +64,18 @@ Holds (shares c most) = Accepted c × (most-shared (single c) ≡ most)
 Holds (encodes c xs ws) = Accepted c × Message (single c) xs × (encoded (single c) xs ≡ ws)
 Holds (weighs c p ws) = Accepted c × (p < c .n) × (weights (single c) p ≡ ws)
 Holds (repairs c p xs x) =
-    Accepted c × (p < c .n) × (length xs ≡ mates-number (single c) p) × (all-below (q (c .field)) xs ≡ true) × (repaired (single c) p xs ≡ x)
+    Accepted c × (p < c .n) × (length xs ≡ mates-number (single c) p) × (all-below (q (c .field)) xs ≡ true)
+    × (held (single c) (mates (single c) p) xs ≡ true) × (repaired (single c) p xs ≡ x)
+Holds (refuses c p xs) =
+    Accepted c × (p < c .n) × (length xs ≡ mates-number (single c) p) × (all-below (q (c .field)) xs ≡ true)
+    × (held (single c) (mates (single c) p) xs ≡ false)
 Holds (decodes c ws ms xs) = Accepted c × ((buffer : List ℕ) → Verdict (single c) ws ms buffer xs 0)
 Holds (declines c ws ms number) = Accepted c × ((buffer : List ℕ) → Verdict (single c) ws ms buffer buffer number)
 Holds (graded c ms g) = Accepted c × (grade (single c) ms ≡ g)
 Holds (breaks c ms g) = Accepted c × (first-broken (single c) ms ≡ g)
 Holds (previews c p ms l g f) = Accepted c × (p < c .n) × (preview-of (single c) p ms ≡ record { refusal = 0; lost = l; grade = g; first = f })
 Holds (passes c ws ms vs ns n) =
-    Accepted c × (passed (single c) ws ms ≡ vs) × (marks-after (single c) ms ≡ ns) × (mended (single c) ms ≡ n)
+    Accepted c × (passed (single c) ws ms ≡ vs) × (marks-after (single c) ws ms ≡ ns) × (mended (single c) ws ms ≡ n)
 Holds (sheets c ws ms vs xs) =
     Accepted c × (sheet-words c ws ms ≡ vs) × (code-in (bytes vs) ≡ c) × (symbols-in (bytes vs) ≡ xs) × (marks-in (bytes vs) ≡ ms)
 Holds (multiplies f a b p) = times f a b ≡ p
@@ -85,6 +93,9 @@ word = 4 ∷ 8 ∷ 7 ∷ 1 ∷ 11 ∷ 2 ∷ 0 ∷ 0 ∷ 0 ∷ []
 -- N wired, and a wired code over bytes, with codewords
 abbrev pub W : Code
 W = code-of 0 2 9 4 1
+
+abbrev pub wired-ones : List ℕ
+wired-ones = 4 ∷ 1 ∷ 0 ∷ 8 ∷ 11 ∷ 0 ∷ 7 ∷ 2 ∷ 0 ∷ []
 
 abbrev pub wired-message : List ℕ
 wired-message = 1 ∷ 2 ∷ 3 ∷ 4 ∷ []
@@ -291,6 +302,21 @@ short-cases =
     (127 ∷ 108 ∷ 234 ∷ 6 ∷ 164 ∷ 145 ∷ 225 ∷ 0 ∷ [])
     ∷ []
 
+-- mates on a line, and yet no codeword's where k is 2
+abbrev pub straight : List ℕ
+straight = 8 ∷ 12 ∷ 5 ∷ []
+
+-- mates of a codeword, some of them of degree k; mates of none; a group that the local pass leaves beside one that it mends
+abbrev pub told-cases : List Case
+told-cases =
+    repairs (code-of 0 2 3 1 0) 0 (5 ∷ 5 ∷ []) 5
+    ∷ repairs (code-of 1 4 10 3 0) 7 (9 ∷ 62 ∷ 11 ∷ 196 ∷ []) 249
+    ∷ repairs (code-of 1 4 10 3 1) 7 (9 ∷ 62 ∷ 249 ∷ 196 ∷ []) 11
+    ∷ repairs (code-of 0 3 6 2 0) 0 (6 ∷ 2 ∷ 4 ∷ []) 12
+    ∷ refuses (code-of 0 3 6 2 0) 0 straight
+    ∷ passes (code-of 0 2 9 1 0) (255 ∷ 5 ∷ 7 ∷ 4 ∷ 255 ∷ 4 ∷ 255 ∷ 255 ∷ 6 ∷ []) (1 ∷ 0 ∷ 0 ∷ 0 ∷ 1 ∷ 0 ∷ 1 ∷ 1 ∷ 0 ∷ []) (255 ∷ 5 ∷ 7 ∷ 4 ∷ 4 ∷ 4 ∷ 255 ∷ 255 ∷ 6 ∷ []) (1 ∷ 0 ∷ 0 ∷ 0 ∷ 0 ∷ 0 ∷ 1 ∷ 1 ∷ 0 ∷ []) 1
+    ∷ short-cases
+
 abbrev pub cases : List Case
 cases =
     located N (1 ∷ 3 ∷ 9 ∷ 2 ∷ 6 ∷ 5 ∷ 4 ∷ 12 ∷ 10 ∷ [])
@@ -299,9 +325,9 @@ cases =
     ∷ encodes (code-of 0 3 12 7 0) (1 ∷ 2 ∷ 3 ∷ 4 ∷ 5 ∷ 6 ∷ 7 ∷ []) (2 ∷ 7 ∷ 1 ∷ 12 ∷ 12 ∷ 4 ∷ 9 ∷ 6 ∷ 1 ∷ 0 ∷ 2 ∷ 8 ∷ [])
     ∷ encodes (code-of 1 2 9 5 0) (1 ∷ 2 ∷ 3 ∷ 4 ∷ 255 ∷ []) (251 ∷ 51 ∷ 53 ∷ 108 ∷ 244 ∷ 176 ∷ 97 ∷ 1 ∷ 125 ∷ [])
     ∷ repairs N 0 (8 ∷ 7 ∷ []) 4
-    ∷ repairs (code-of 0 2 3 1 0) 0 (5 ∷ 7 ∷ []) 0
+    ∷ refuses (code-of 0 2 3 1 0) 0 (5 ∷ 7 ∷ [])
     ∷ weighs (code-of 1 4 10 3 0) 7 (146 ∷ 221 ∷ 10 ∷ 68 ∷ [])
-    ∷ repairs (code-of 1 4 10 3 0) 7 (10 ∷ 200 ∷ 30 ∷ 140 ∷ []) 246
+    ∷ refuses (code-of 1 4 10 3 0) 7 (10 ∷ 200 ∷ 30 ∷ 140 ∷ [])
     ∷ sure N 4
     ∷ decodes N word (1 ∷ 1 ∷ 1 ∷ 1 ∷ 0 ∷ 0 ∷ 0 ∷ 0 ∷ 0 ∷ []) ones
     ∷ graded N (1 ∷ 1 ∷ 1 ∷ 1 ∷ 0 ∷ 0 ∷ 0 ∷ 0 ∷ 0 ∷ []) 2
@@ -331,14 +357,14 @@ cases =
     ∷ asks (code-of 0 2 9 7 2) 4
     ∷ located W (1 ∷ 2 ∷ 4 ∷ 3 ∷ 6 ∷ 12 ∷ 9 ∷ 5 ∷ 10 ∷ [])
     ∷ located B (1 ∷ 2 ∷ 4 ∷ 214 ∷ 177 ∷ 127 ∷ 215 ∷ 179 ∷ 123 ∷ [])
-    ∷ encodes W ones (4 ∷ 1 ∷ 0 ∷ 8 ∷ 11 ∷ 0 ∷ 7 ∷ 2 ∷ 0 ∷ [])
+    ∷ encodes W ones wired-ones
     ∷ encodes W wired-message wired-word
     ∷ encodes (code-of 0 3 12 7 1) (1 ∷ 2 ∷ 3 ∷ 4 ∷ 5 ∷ 6 ∷ 7 ∷ []) (2 ∷ 12 ∷ 1 ∷ 7 ∷ 4 ∷ 0 ∷ 1 ∷ 9 ∷ 2 ∷ 12 ∷ 6 ∷ 8 ∷ [])
     ∷ encodes B byte-message byte-word
     ∷ repairs W 0 (8 ∷ 7 ∷ []) 4
     ∷ repairs W 4 (1 ∷ 2 ∷ []) 11
     ∷ weighs (code-of 1 4 10 3 1) 7 (68 ∷ 146 ∷ 221 ∷ 10 ∷ [])
-    ∷ repairs (code-of 1 4 10 3 1) 7 (10 ∷ 200 ∷ 30 ∷ 140 ∷ []) 241
+    ∷ refuses (code-of 1 4 10 3 1) 7 (10 ∷ 200 ∷ 30 ∷ 140 ∷ [])
     ∷ sure W 4
     ∷ sure B 2
     ∷ passes W (255 ∷ 2 ∷ 3 ∷ 255 ∷ 255 ∷ 0 ∷ 6 ∷ 0 ∷ 4 ∷ []) (1 ∷ 0 ∷ 0 ∷ 1 ∷ 1 ∷ 0 ∷ 0 ∷ 0 ∷ 0 ∷ []) (255 ∷ 2 ∷ 3 ∷ 255 ∷ 8 ∷ 0 ∷ 6 ∷ 0 ∷ 4 ∷ []) (1 ∷ 0 ∷ 0 ∷ 1 ∷ 0 ∷ 0 ∷ 0 ∷ 0 ∷ 0 ∷ []) 1
@@ -372,7 +398,7 @@ cases =
     (0x19020905 ∷ 0x200000fb ∷ 0x30000100 ∷ 0x20000261 ∷ 0x20000333 ∷ 0x30000400 ∷ 0x20000501 ∷ 0x20000635 ∷ 0x200007b0 ∷ 0x2000087d ∷ 0x40000009 ∷ [])
     (251 ∷ 0 ∷ 97 ∷ 51 ∷ 0 ∷ 1 ∷ 53 ∷ 176 ∷ 125 ∷ [])
     ∷ multiplies 1 128 2 29
-    ∷ short-cases
+    ∷ told-cases
 
 unfoldable pub Cases-hold : Type 0
 Cases-hold = Each Holds cases
