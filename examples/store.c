@@ -531,7 +531,8 @@ static int read_drives(int folder, const struct layout *l, struct drives *drives
     return status;
 }
 
-/* Rebuilds the drive of a slot from its mates, so many, strip by strip. */
+/* Rebuilds the drive of a slot from its mates, so many, strip by strip. Where no codeword has some stripe's mates the drive
+   stays lost: decode then says which stripe is refused. */
 static int rebuild(const struct layout *l, uint32_t slot, const uint32_t *mates, uint32_t count, struct drives *drives) {
     static uint8_t strips[16 * LATSEFIDY_STRIP_MOST];
     uint8_t *out = malloc(l->stripes + 1);
@@ -543,6 +544,7 @@ static int rebuild(const struct layout *l, uint32_t slot, const uint32_t *mates,
                                              length);
         if (refused != 0) {
             free(out);
+            if (refused == LATSEFIDY_REFUSAL_FOREIGN) return DONE;
             return refuse("drive %" PRIu32 " is refused, %" PRIu32 ": %s", slot, refused, latsefidy_refusal_text(refused));
         }
     }

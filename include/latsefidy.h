@@ -6,14 +6,19 @@
  * repaired from the others, its mates. Up to the guarantee any lost symbols are decoded.
  *
  * Marks are a byte a slot: 0 kept, 1 lost. A lost slot may hold any byte; it is never read. A wrong
- * symbol in a slot that is marked as kept is not covered: decode may refuse it (9), or give another
- * message.
+ * symbol in a slot that is marked as kept is not covered: a call may refuse it (9), or give another
+ * message or symbol.
  *
  * Groups. A whole group has r + 1 slots, each with r mates. Where n is a multiple of r + 1 all
  * groups are whole, and the guarantee is n - k - ceil(k / r) + 1. Else the last group is short: it
  * has the s = n mod (r + 1) slots that are left, each with s - 1 mates, and the guarantee is
  * n - k - ceil((k + r + 1 - s) / r) + 1. The polynomial of a codeword is 0 at the r + 1 - s points
  * that the short group lacks. There are G = ceil(n / (r + 1)) groups.
+ *
+ * Mates. What stands at the mates of a slot is true where some codeword has these symbols there.
+ * Where k is r or more, and in a short last group, any symbols below q are. In the whole groups of
+ * a code with k below r only q^k of the q^r sets are true: repair and rebuild refuse the others
+ * (9), and the local pass leaves the group.
  *
  * Wiring. It says which slots make a group. Under wiring 0 they stand side by side: slot p is
  * member p mod (r + 1) of group p div (r + 1). Under wiring 1 the groups are spread: slot p is
@@ -34,9 +39,9 @@
  *
  * Alignment. Bytes may stand anywhere; a buffer of 32-bit numbers is aligned as uint32_t is.
  *
- * Stack. Report and preview_sheet take about 66 kilobytes, decode and record less than 6, preview
- * less than 4, the others 3 or less. No other memory is needed but the buffers. (Measured on the
- * compiled code; no proof covers it.)
+ * Stack. Report and preview_sheet take about 66 kilobytes, rebuild about 10, repair about 8, decode
+ * and record less than 6, preview less than 4, the others 3 or less. No other memory is needed but
+ * the buffers. (Measured on the compiled code; no proof covers it.)
  *
  * Processors. The archive is for x86-64 and uses SSE2 alone, which each of them has. One built for
  * newer processors (tools/build-for) does not test where it runs: on an older one the program ends
@@ -65,9 +70,9 @@ extern "C" {
 #endif
 
 #define LATSEFIDY_VERSION_MAJOR 0
-#define LATSEFIDY_VERSION_MINOR 5
-#define LATSEFIDY_VERSION_PATCH 1
-#define LATSEFIDY_VERSION "0.5.1"
+#define LATSEFIDY_VERSION_MINOR 6
+#define LATSEFIDY_VERSION_PATCH 0
+#define LATSEFIDY_VERSION "0.6.0"
 
 #define LATSEFIDY_WEIGHTS 16        /* length of a weights buffer */
 #define LATSEFIDY_STRIP_MOST 4096   /* most symbols of one strip */
@@ -156,31 +161,35 @@ uint32_t latsefidy_encode(uint32_t field, uint32_t r, uint32_t n, uint32_t k, ui
 uint32_t latsefidy_weights(uint32_t field, uint32_t r, uint32_t n, uint32_t k, uint32_t wiring,
                            uint32_t slot, uint8_t *weights, size_t weights_len);
 
-/* Repairs one symbol: the value, at the slot's point, of the polynomial of degree below r through
- * the mates; in a short last group the one that is also 0 at the points that the group lacks.
+/* Repairs one symbol from true mates: the value, at the slot's point, of the polynomial of degree
+ * below r through the mates; in a short last group the one that is also 0 at the points that the
+ * group lacks. Every codeword that has the mates has that symbol in the slot.
  *   mates     r symbols, in a short last group s - 1: the other members of the slot's group, in
  *             slot order
- * Returns the refusal (high) and the slot's symbol (low). Asked in the order 1 2 3 4 17 5 7 6:
+ * Returns the refusal (high) and the slot's symbol (low). Asked in the order 1 2 3 4 17 5 7 6 9:
  *   1 to 4  the code, and 17 its wiring
  *   5       mates_len is not r, or for a slot of a short last group not s - 1 (a slot of n or more
  *           wants r)
  *   7       slot is n or more
  *   6       a mate is q or more
+ *   9       no codeword has the mates
  */
 uint64_t latsefidy_repair(uint32_t field, uint32_t r, uint32_t n, uint32_t k, uint32_t wiring,
                           uint32_t slot, const uint8_t *mates, size_t mates_len);
 
 /* Rebuilds a strip, many symbols of one slot: symbol c of the strip is the repair of symbol c of
- * each mate's strip. The repair weights are worked out once a call, not for each symbol.
+ * each mate's strip. One such column that is not true refuses the whole strip. The repair weights
+ * are worked out once a call, not for each symbol.
  *   strips    r * out_len symbols, in a short last group (s - 1) * out_len: the mates' strips in
  *             slot order, end to end
  *   out       1 to 4,096 symbols, written
- * Returns 0 or the refusal, asked in the order 1 2 3 4 17 5 7 6:
+ * Returns 0 or the refusal, asked in the order 1 2 3 4 17 5 7 6 9:
  *   1 to 4  the code, and 17 its wiring
  *   5       out_len is 0 or above 4,096, or strips_len is not r * out_len, or for a slot of a short
  *           last group not (s - 1) * out_len (a slot of n or more wants r * out_len)
  *   7       slot is n or more
  *   6       a symbol of the strips is q or more
+ *   9       of some column no codeword has the mates; asked where every symbol is below q
  */
 uint32_t latsefidy_rebuild(uint32_t field, uint32_t r, uint32_t n, uint32_t k, uint32_t wiring,
                            uint32_t slot, const uint8_t *strips, size_t strips_len,
@@ -200,7 +209,8 @@ uint64_t latsefidy_view(uint32_t field, uint32_t r, uint32_t n, uint32_t k, uint
                         uint32_t slot, const uint8_t *word, size_t word_len);
 
 /* Repairs the lost symbol of each group with exactly one loss, in the group's own slots, and sets
- * its mark to 0. All else stays.
+ * its mark to 0. All else stays, also a group with one loss whose kept symbols no codeword has: k
+ * is below r then, and decode answers 9 for the word.
  *   word      n symbols, changed
  *   marks     n marks, changed
  * Returns the refusal (high) and the number of groups repaired (low). Asked in the order
@@ -208,7 +218,7 @@ uint64_t latsefidy_view(uint32_t field, uint32_t r, uint32_t n, uint32_t k, uint
  *   1 to 4  the code, and 17 its wiring
  *   5       word_len or marks_len is not n
  *   8       a mark is neither 0 nor 1
- *   6       a kept symbol of a group with exactly one loss is q or more
+ *   6       a kept symbol of a group with exactly one loss is q or more, repaired or not
  */
 uint64_t latsefidy_local_pass(uint32_t field, uint32_t r, uint32_t n, uint32_t k, uint32_t wiring,
                               uint8_t *word, size_t word_len,
@@ -236,7 +246,7 @@ uint32_t latsefidy_decode(uint32_t field, uint32_t r, uint32_t n, uint32_t k, ui
 
 /* Grades the losses, by the code and the marks alone:
  *   0  nothing is lost
- *   1  else, no group has more than one loss: the local pass repairs all
+ *   1  else, no group has more than one loss: the local pass repairs all of a codeword
  *   2  else, the number lost is at most the guarantee
  *   3  else, past the guarantee, but the kept slots still decide: no two codewords agree on them
  *   4  some two different codewords agree on the kept slots

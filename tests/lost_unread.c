@@ -3,8 +3,8 @@
  * Every stripe is handed to the calls four times: with 0x00, 0xFF and random bytes in its lost slots, and then with
  * these slots out of reach, so that valgrind reports every load of one. All four must answer the same and leave the
  * same bytes. The local pass writes the lost symbol of a group with exactly one loss: that byte is undefined instead,
- * and may be written but not used. The group view reads no symbol at all. Each code is tried under both wirings, one
- * with a short last group under wiring 0 alone.
+ * and may be written but not used; where no codeword has the group's kept symbols it stays. The group view reads no
+ * symbol at all. Each code is tried under both wirings, one with a short last group under wiring 0 alone.
  */
 #include <stdint.h>
 #include <stdio.h>
@@ -45,11 +45,12 @@ static const Code codes[] = {
     {0, 11, 12, 11, 0}, {0, 2, 12, 1, 0},   {1, 2, 9, 5, 0},      {1, 4, 10, 3, 0},     {1, 4, 50, 37, 0},
     {1, 14, 45, 30, 0}, {1, 16, 34, 20, 0}, {1, 2, 255, 160, 0},  {1, 16, 255, 200, 0}, {1, 16, 255, 240, 0},
     {0, 2, 11, 5, 0},   {0, 3, 6, 2, 0},    {0, 5, 11, 9, 0},     {0, 11, 5, 4, 0},     {1, 2, 8, 4, 0},
-    {1, 4, 8, 5, 0},    {1, 14, 29, 20, 0}, {1, 14, 13, 12, 0},   {1, 16, 250, 230, 0},
+    {1, 4, 8, 5, 0},    {1, 14, 29, 20, 0}, {1, 14, 13, 12, 0},   {1, 16, 250, 230, 0}, {1, 16, 34, 8, 0},
+    {1, 14, 29, 13, 0},
 };
 
 static uint32_t state = SEED;
-static unsigned long guarded, answers[11], mended;
+static unsigned long guarded, answers[11], mended, left_alone;
 
 static uint32_t random_below(uint32_t most) {
     state ^= state << 13;
@@ -230,6 +231,7 @@ static void run(int call, const Stripe *s, int filling, Left *left, uint8_t afte
         } else {
             if (filling == OUT_OF_REACH) (void)VALGRIND_MAKE_MEM_DEFINED(word + p, 1);
             if (word[p] != before[p]) fail(s, call, "a byte that is lost still was changed");
+            left_alone += call == LOCAL_PASS && left->answer >> 32 == 0 && group_losses(s, p) == 1;
         }
     }
     free(word);
@@ -279,7 +281,7 @@ int main(int argc, char **argv) {
         make_stripe(&s, code, i % COUNT(kinds));
         for (int call = 0; call < CALLS; call++) compare(call, &s);
     }
-    if (!answers[0] || !answers[6] || !answers[9] || !answers[10] || !mended) {
+    if (!answers[0] || !answers[6] || !answers[9] || !answers[10] || !mended || !left_alone) {
         fprintf(stderr, "lost-unread: an answer was never met\n");
         return 1;
     }

@@ -47,16 +47,22 @@ impl Code {
     }
 
     /// The slot's symbol from its [`mates`](Code::mates), in slot order: r of them, fewer for a slot
-    /// of a short last group.
+    /// of a short last group. The mates are true where some codeword has these symbols there; others
+    /// are refused, 9. Where k is r or more, and in a short last group, all are true.
     ///
     /// ```
-    /// let code = latsefidy::Code::new(0, 2, 9, 4)?;
+    /// use latsefidy::{Code, Refusal};
+    ///
+    /// let code = Code::new(0, 2, 9, 4)?;
     /// assert_eq!(code.repair(0, &[8, 7])?, 4); // the mates of slot 0 are slots 1 and 2
-    /// let wired = latsefidy::Code::with_wiring(0, 2, 9, 4, 1)?;
+    /// let wired = Code::with_wiring(0, 2, 9, 4, 1)?;
     /// assert_eq!(wired.repair(0, &[8, 7])?, 4); // they are slots 3 and 6
-    /// let short = latsefidy::Code::new(0, 2, 11, 5)?;
+    /// let short = Code::new(0, 2, 11, 5)?;
     /// assert_eq!(short.repair(9, &[7])?, 5); // slot 10 is the one mate of slot 9
-    /// # Ok::<(), latsefidy::Refusal>(())
+    /// let equal = Code::new(0, 2, 3, 1)?; // a codeword is one symbol three times
+    /// assert_eq!(equal.repair(0, &[5, 5])?, 5);
+    /// assert_eq!(equal.repair(0, &[5, 7]), Err(Refusal::Foreign));
+    /// # Ok::<(), Refusal>(())
     /// ```
     pub fn repair(self, slot: u32, mates: &[u8]) -> Result<u8, Refusal> {
         let Code { field, r, n, k, wiring } = self;
@@ -66,16 +72,22 @@ impl Code {
     }
 
     /// Rebuilds a strip of the slot, 1 to [`STRIP_MOST`](crate::STRIP_MOST) symbols, from its
-    /// [`mates`](Code::mates)' strips, end to end in slot order. The repair weights are worked out
-    /// once a call.
+    /// [`mates`](Code::mates)' strips, end to end in slot order. One column that is not true, as
+    /// [`repair`](Code::repair) has it, refuses the whole strip, 9, and `out` stays as it is. The
+    /// repair weights are worked out once a call.
     ///
     /// ```
-    /// let code = latsefidy::Code::new(1, 4, 10, 3)?;
-    /// let strips = [10, 0, 1, 200, 0, 2, 30, 0, 3, 140, 0, 4];
+    /// use latsefidy::{Code, Refusal};
+    ///
+    /// let code = Code::new(1, 4, 10, 3)?;
+    /// let mut strips = [9, 0, 22, 62, 0, 110, 11, 0, 41, 196, 0, 52];
     /// let mut out = [0; 3];
     /// code.rebuild(7, &strips, &mut out)?;
-    /// assert_eq!(out, [246, 0, 38]);
-    /// # Ok::<(), latsefidy::Refusal>(())
+    /// assert_eq!(out, [249, 0, 97]);
+    /// strips[11] = 53; // of the third column
+    /// assert_eq!(code.rebuild(7, &strips, &mut out), Err(Refusal::Foreign));
+    /// assert_eq!(out, [249, 0, 97]);
+    /// # Ok::<(), Refusal>(())
     /// ```
     pub fn rebuild(self, slot: u32, strips: &[u8], out: &mut [u8]) -> Result<(), Refusal> {
         let Code { field, r, n, k, wiring } = self;
@@ -103,7 +115,8 @@ impl Code {
     }
 
     /// Repairs the lost symbol of each group with exactly one loss, and sets its mark to 0; answers
-    /// how many groups. All else stays.
+    /// how many groups. All else stays: also a group with one loss whose kept symbols no codeword
+    /// has.
     ///
     /// ```
     /// let code = latsefidy::Code::new(0, 2, 9, 4)?;
@@ -111,6 +124,10 @@ impl Code {
     /// let mut marks = [0, 0, 1, 0, 0, 0, 0, 0, 0];
     /// assert_eq!(code.local_pass(&mut word, &mut marks)?, 1);
     /// assert_eq!((word, marks), ([4, 8, 7, 1, 11, 2, 0, 0, 0], [0; 9]));
+    /// let equal = latsefidy::Code::new(0, 2, 6, 1)?; // a codeword is one symbol six times
+    /// let (mut word, mut marks) = ([99, 5, 7, 4, 99, 4], [1, 0, 0, 0, 1, 0]);
+    /// assert_eq!(equal.local_pass(&mut word, &mut marks)?, 1);
+    /// assert_eq!((word, marks), ([99, 5, 7, 4, 4, 4], [1, 0, 0, 0, 0, 0]));
     /// # Ok::<(), latsefidy::Refusal>(())
     /// ```
     pub fn local_pass(self, word: &mut [u8], marks: &mut [u8]) -> Result<u32, Refusal> {
@@ -163,7 +180,7 @@ impl Code {
     /// The grade of the losses, by the code and the marks alone:
     ///
     /// - 0: nothing is lost;
-    /// - 1: else, no group has more than one loss, and the [local pass](Code::local_pass) repairs all;
+    /// - 1: else, no group has more than one loss: the [local pass](Code::local_pass) repairs all of a codeword;
     /// - 2: else, the number lost is at most the [guarantee](Code::guarantee);
     /// - 3: else, past the guarantee, but the kept slots still decide: no two codewords agree on them;
     /// - 4: some two different codewords agree on the kept slots.

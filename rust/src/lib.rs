@@ -7,7 +7,8 @@
 //!
 //! The promise is about lost drives that are marked. Wrong bytes on a drive that claims to be sound
 //! are not covered: an unmarked wrong symbol can decode to another message. Keep a checksum beside
-//! each drive's bytes, and mark the drive where it fails.
+//! each drive's bytes, and mark the drive where it fails. What no codeword has is refused: mates by
+//! repair, a word by decode.
 //!
 //! ```
 //! use latsefidy::Code;

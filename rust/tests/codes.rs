@@ -194,6 +194,40 @@ fn losses_come_back() {
     }
 }
 
+/// A codeword's mates with one symbol changed are refused in whole groups where k is below r: all of them where no group is
+/// short, else some. Where k is r or more, and in a short last group, none are.
+#[test]
+fn changed_mates_are_refused() {
+    let large = [(4, 20, 3), (14, 45, 6), (16, 255, 8), (16, 250, 12)].map(|(r, n, k)| Code::new(1, r, n, k).unwrap());
+    for code in codes(0).chain(whole(0).map(wired)).chain(large) {
+        let q = nonzero(code.field()) + 1;
+        let message: Vec<u8> = (0..code.k()).map(|m| ((5 * m + 2) % q) as u8).collect();
+        let mut word = vec![0; code.n() as usize];
+        code.encode(&message, &mut word).unwrap();
+        for slot in (0..code.n()).step_by(if code.n() < 100 { 1 } else { 16 }) {
+            let mates: Vec<u8> = code.mates(slot).unwrap().map(|p| word[p as usize]).collect();
+            let told = code.k() < code.r() && mates.len() == code.r() as usize;
+            let mut refused = 0;
+            for at in 0..mates.len() {
+                let (mut changed, mut out) = (mates.clone(), [99]);
+                changed[at] = ((u32::from(changed[at]) + 1) % q) as u8;
+                let answer = code.repair(slot, &changed);
+                assert!(
+                    answer.is_ok() || (told && answer == Err(Refusal::Foreign)),
+                    "{code:?} slot {slot}: {answer:?}"
+                );
+                assert_eq!(code.rebuild(slot, &changed, &mut out).map(|()| out[0]), answer);
+                assert!(answer.is_ok() || out == [99]);
+                refused += usize::from(answer.is_err());
+            }
+            assert!(
+                !told || refused > 0 && (is_short(&code) || refused == mates.len()),
+                "{code:?} slot {slot}: {refused}"
+            );
+        }
+    }
+}
+
 /// Grade 4 is where decode cannot tell, and up to grade 3 the message comes back: slots side by side, and every other one.
 #[test]
 fn grades_say_what_decodes() {

@@ -78,12 +78,66 @@ fn encodes() {
 #[test]
 fn repairs() {
     assert_eq!(classroom().repair(0, &[8, 7]), Ok(4));
-    assert_eq!(code(0, 2, 3, 1).repair(0, &[5, 7]), Ok(0));
     let bytes = code(1, 4, 10, 3);
     assert_eq!(bytes.weights(7).unwrap()[..5], [146, 221, 10, 68, 0]);
-    assert_eq!(bytes.repair(7, &[10, 200, 30, 140]), Ok(246));
+    assert_eq!(bytes.repair(7, &[9, 62, 11, 196]), Ok(249));
     assert_eq!(classroom().repair(9, &[13, 13]), Err(Refusal::Slot));
     assert_eq!(classroom().repair(8, &[13, 13]), Err(Refusal::Symbol));
+}
+
+#[test]
+fn refuses_mates_of_no_codeword() {
+    let equal = code(0, 2, 3, 1);
+    assert_eq!(equal.repair(0, &[5, 7]), Err(Refusal::Foreign));
+    assert_eq!(equal.repair(0, &[5, 5]), Ok(5));
+    // The questions before: 5, then 7, then 6.
+    assert_eq!(equal.repair(3, &[5, 13, 7]), Err(Refusal::Length));
+    assert_eq!(equal.repair(3, &[5, 13]), Err(Refusal::Slot));
+    assert_eq!(equal.repair(0, &[5, 13]), Err(Refusal::Symbol));
+    // Over bytes, by both wirings.
+    assert_eq!(code(1, 4, 10, 3).repair(7, &[10, 200, 30, 140]), Err(Refusal::Foreign));
+    let spread = Code::with_wiring(1, 4, 10, 3, 1).unwrap();
+    assert_eq!(spread.repair(7, &[9, 62, 249, 196]), Ok(11));
+    assert_eq!(spread.repair(7, &[10, 200, 30, 140]), Err(Refusal::Foreign));
+    // A whole group of a short code: true mates of degree k, and others of a degree below k. In the short one any are true.
+    let six = code(0, 3, 6, 2);
+    assert_eq!(six.repair(0, &[6, 2, 4]), Ok(12));
+    assert_eq!(six.repair(0, &[8, 12, 5]), Err(Refusal::Foreign));
+    assert_eq!((six.repair(5, &[1]), six.repair(5, &[2])), (Ok(8), Ok(3)));
+}
+
+#[test]
+fn refuses_a_strip_for_one_column() {
+    let (bytes, mut out) = (code(1, 4, 10, 3), [99; 3]);
+    let good = [9, 0, 22, 62, 0, 110, 11, 0, 41, 196, 0, 52];
+    bytes.rebuild(7, &good, &mut out).unwrap();
+    assert_eq!(out, [249, 0, 97]);
+    for at in 0..12 {
+        let (mut strips, mut out) = (good, [99; 3]);
+        strips[at] ^= 1;
+        assert_eq!(bytes.rebuild(7, &strips, &mut out), Err(Refusal::Foreign));
+        assert_eq!(out, [99; 3]);
+    }
+    // 6 is asked of all columns before 9 of any.
+    let mut out = [99; 2];
+    assert_eq!(code(0, 2, 3, 1).rebuild(0, &[5, 13, 7, 5], &mut out), Err(Refusal::Symbol));
+    assert_eq!(code(0, 2, 3, 1).rebuild(0, &[5, 6, 7, 6], &mut out), Err(Refusal::Foreign));
+    assert_eq!(out, [99; 2]);
+}
+
+#[test]
+fn leaves_groups_of_no_codeword() {
+    // Codewords are one symbol nine times: group 0 is left, group 1 mended, group 2 has lost two.
+    let (equal, mut word, mut marks) = (code(0, 2, 9, 1), [99, 5, 7, 4, 99, 4, 99, 99, 6], marked(&[0, 4, 6, 7]));
+    assert_eq!(equal.local_pass(&mut word, &mut marks), Ok(1));
+    assert_eq!((word, marks), ([99, 5, 7, 4, 4, 4, 99, 99, 6], marked(&[0, 6, 7])));
+    // 6 is asked of the group that is left too.
+    word[1] = 13;
+    assert_eq!(equal.local_pass(&mut word, &mut marks), Err(Refusal::Symbol));
+    // Groups need not be of one codeword.
+    let (mut word, mut marks) = ([99, 5, 5, 4, 99, 4, 6, 6, 99], marked(&[0, 4, 8]));
+    assert_eq!(equal.local_pass(&mut word, &mut marks), Ok(3));
+    assert_eq!((word, marks), ([5, 5, 5, 4, 4, 4, 6, 6, 6], [0; 9]));
 }
 
 #[test]

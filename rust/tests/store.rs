@@ -240,6 +240,14 @@ fn a_wrong_byte_is_refused_or_not_found() {
     place.file("d/drive-9", &drive);
     place.refused(1, "load d g", "load: stripe 5 refused 9: no codeword agrees with every kept symbol");
     assert!(!place.at("g").exists());
+    // With K below R its mates contradict it too, so a lost drive of its group is not rebuilt.
+    let place = stored(1000, "4 10 3");
+    let mut drive = place.bytes("d/drive-9");
+    drive[5] ^= 1;
+    place.file("d/drive-9", &drive);
+    place.run(0, "lose d 2 7");
+    place.refused(1, "load d g", "load: stripe 5 refused 9: no codeword agrees with every kept symbol");
+    assert!(!place.at("g").exists());
     // Without any other drive to contradict it the wrong byte is believed.
     place.file("s", &[5]);
     place.run(0, "store s one 2 3 1");

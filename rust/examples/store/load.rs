@@ -52,15 +52,19 @@ fn rebuilt(stripe: &Stripe, slot: u32, mates: &[&[u8]]) -> Result<Vec<u8>, Refus
     Ok(bytes)
 }
 
-/// Rebuilds the lost drive of each group that has lost just one.
+/// Rebuilds the lost drive of each group that has lost just one. Where no codeword has some stripe's mates the drive stays
+/// lost: decode then says which stripe is refused.
 fn rebuild(stripe: &Stripe, drives: &mut [Drive]) -> Result<(), Trouble> {
     for group in stripe.code.groups() {
         let lost: Vec<u32> = group.clone().filter(|&slot| drives[slot as usize].is_none()).collect();
         let &[slot] = &lost[..] else { continue };
         let (slots, mates): (Vec<String>, Vec<&[u8]>) =
             group.filter_map(|p| Some((p.to_string(), drives[p as usize].as_deref()?))).unzip();
-        let bytes = rebuilt(stripe, slot, &mates)
-            .map_err(|refusal| Trouble::Refused(format!("drive {slot} is not rebuilt: {refusal}")))?;
+        let bytes = match rebuilt(stripe, slot, &mates) {
+            Ok(bytes) => bytes,
+            Err(Refusal::Foreign) => continue,
+            Err(refusal) => return Err(Trouble::Refused(format!("drive {slot} is not rebuilt: {refusal}"))),
+        };
         drives[slot as usize] = Some(bytes);
         say::out(&format!("load: drive {slot} rebuilt from drives {}", slots.join(" ")))?;
     }
