@@ -11,12 +11,12 @@
 int wide;
 
 const struct level levels[LEVELS] = {
-    {"x86-64", latsefidy_encode, latsefidy_decode, latsefidy_local_pass, latsefidy_rebuild, latsefidy_grade, latsefidy_preview,
-     latsefidy_preview_sheet, 0},
-    {"v3", latsefidy_encode_v3, latsefidy_decode_v3, latsefidy_local_pass_v3, latsefidy_rebuild_v3, latsefidy_grade_v3,
-     latsefidy_preview_v3, latsefidy_preview_sheet_v3, 0},
-    {"v4", latsefidy_encode_v4, latsefidy_decode_v4, latsefidy_local_pass_v4, latsefidy_rebuild_v4, latsefidy_grade_v4,
-     latsefidy_preview_v4, latsefidy_preview_sheet_v4, 1}};
+    {"x86-64", latsefidy_encode, latsefidy_decode, latsefidy_local_pass, latsefidy_repair, latsefidy_rebuild, latsefidy_grade,
+     latsefidy_preview, latsefidy_preview_sheet, 0},
+    {"v3", latsefidy_encode_v3, latsefidy_decode_v3, latsefidy_local_pass_v3, latsefidy_repair_v3, latsefidy_rebuild_v3,
+     latsefidy_grade_v3, latsefidy_preview_v3, latsefidy_preview_sheet_v3, 0},
+    {"v4", latsefidy_encode_v4, latsefidy_decode_v4, latsefidy_local_pass_v4, latsefidy_repair_v4, latsefidy_rebuild_v4,
+     latsefidy_grade_v4, latsefidy_preview_v4, latsefidy_preview_sheet_v4, 1}};
 
 static double seconds(clockid_t clock) {
     struct timespec t;
@@ -95,12 +95,33 @@ void differs(const char *name) {
     exit(1);
 }
 
+uint8_t point(int r, int group, int member) { return power(2, (group + member * (255 / (r + 1))) % 255); }
+
+uint8_t vanishing(int r, int n, uint8_t x) {
+    uint8_t h = 1;
+    for (int i = n % (r + 1); i && i <= r; i++) h = mul(h, x ^ point(r, n / (r + 1), i));
+    return h;
+}
+
+/* powers of g times powers of X, then h times powers of X; g is X to the power r + 1 less what that is on the last group */
+static void generate_short(int r, int n, int k, uint8_t *generator) {
+    int lead = k + 1 - n % (r + 1);
+    for (int p = 0; p < n; p++) {
+        uint8_t x = point(r, p / (r + 1), p % (r + 1)), h = vanishing(r, n, x);
+        uint8_t g = power(x, r + 1) ^ power(point(r, n / (r + 1), 0), r + 1);
+        for (int m = 0; m < k; m++)
+            generator[p * k + m] = m < lead ? mul(power(g, 1 + m / r), power(x, m % r)) : mul(h, power(x, m - lead));
+    }
+}
+
 /* slot p is member p mod (r + 1) of group p div (r + 1) */
 void generate(int r, int n, int k, uint8_t *generator) {
-    for (int p = 0; p < n; p++) {
-        uint8_t point = power(2, (p / (r + 1) + p % (r + 1) * (255 / (r + 1))) % 255);
-        for (int m = 0; m < k; m++) generator[p * k + m] = power(point, m / r * (r + 1) + m % r);
+    if (n % (r + 1)) {
+        generate_short(r, n, k, generator);
+        return;
     }
+    for (int p = 0; p < n; p++)
+        for (int m = 0; m < k; m++) generator[p * k + m] = power(point(r, p / (r + 1), p % (r + 1)), m / r * (r + 1) + m % r);
 }
 
 int invert_kept(int r, int n, int k, const uint8_t *generator, const uint8_t *marks, uint8_t *inverse, int *slots) {
@@ -118,8 +139,8 @@ int main(int argc, char **argv) {
     struct {
         const char *name;
         void (*print)(void);
-    } tables[] = {{"rebuild", rebuild}, {"lengths", lengths},    {"stripes", stripes}, {"strips", strips},
-                  {"wired", wired},     {"short", short_groups}, {"grades", grades},   {"previews", previews}};
+    } tables[] = {{"rebuild", rebuild}, {"lengths", lengths},    {"mates", true_mates}, {"stripes", stripes}, {"strips", strips},
+                  {"wired", wired},     {"short", short_groups}, {"grades", grades},    {"previews", previews}};
     wide = __builtin_cpu_supports("avx512bw") && __builtin_cpu_supports("avx512vl") && __builtin_cpu_supports("avx512dq");
     for (size_t a = 0; a < sizeof tables / sizeof *tables; a++) {
         int named = argc == 1;

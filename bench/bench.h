@@ -39,6 +39,7 @@ extern const struct level {
     __typeof__(latsefidy_encode) *encode;
     __typeof__(latsefidy_decode) *decode;
     __typeof__(latsefidy_local_pass) *pass;
+    __typeof__(latsefidy_repair) *repair;
     __typeof__(latsefidy_rebuild) *rebuild;
     __typeof__(latsefidy_grade) *grade;
     __typeof__(latsefidy_preview) *preview;
@@ -69,6 +70,9 @@ _Noreturn void differs(const char *name);
 uint8_t mul(uint8_t a, uint8_t b);
 uint8_t power(uint8_t a, int e);
 
+/* the point of a member of a group; h at x, the product of x less each point that the last group lacks, 1 where it lacks none */
+uint8_t point(int r, int group, int member);
+uint8_t vanishing(int r, int n, uint8_t x);
 /* the generator matrix, n rows of k: column m is the codeword of the message with 1 at m and else 0 */
 void generate(int r, int n, int k, uint8_t *generator);
 /* by ISA-L: the inverse of the rows of the first k kept slots, at most r of a group, and these slots; 0 if there is one */
@@ -77,6 +81,7 @@ int invert_kept(int r, int n, int k, const uint8_t *generator, const uint8_t *ma
 /* the tables */
 void rebuild(void);
 void lengths(void);
+void true_mates(void);
 void stripes(void);
 void strips(void);
 void wired(void);

@@ -1,5 +1,5 @@
 /* Rebuild: one lost strip from the r others of its group, slot 0. Two tables: against the peers, over bytes; and by the length
-   of the strips, over both fields. */
+   of the strips, over both fields. The code has k = r, so that any mates are true and none is tested. */
 #include "bench.h"
 #include <isa-l.h>
 #include <jerasure.h>
@@ -21,9 +21,9 @@ static int row[16], field, r, l;
 static void kernel(void) { rebuild_strips(weights, r, mates, (size_t)r * l, output, l); }
 static void kernel_v3(void) { rebuild_strips_v3(weights, r, mates, (size_t)r * l, output, l); }
 static void kernel_v4(void) { rebuild_strips_v4(weights, r, mates, (size_t)r * l, output, l); }
-static void call(void) { latsefidy_rebuild(field, r, r + 1, 1, 0, 0, mates, (size_t)r * l, output, l); }
-static void call_v3(void) { latsefidy_rebuild_v3(field, r, r + 1, 1, 0, 0, mates, (size_t)r * l, output, l); }
-static void call_v4(void) { latsefidy_rebuild_v4(field, r, r + 1, 1, 0, 0, mates, (size_t)r * l, output, l); }
+static void call(void) { latsefidy_rebuild(field, r, r + 1, r, 0, 0, mates, (size_t)r * l, output, l); }
+static void call_v3(void) { latsefidy_rebuild_v3(field, r, r + 1, r, 0, 0, mates, (size_t)r * l, output, l); }
+static void call_v4(void) { latsefidy_rebuild_v4(field, r, r + 1, r, 0, 0, mates, (size_t)r * l, output, l); }
 static void isal_base(void) { gf_vect_dot_prod_base(l, r, tables, sources, output); }
 static void isal_sse(void) { gf_vect_dot_prod_sse(l, r, tables, sources, output); }
 static void isal_avx2(void) { gf_vect_dot_prod_avx2(l, r, tables, sources, output); }
@@ -153,14 +153,14 @@ void rebuild(void) {
 /* the weights alone: into a place of their own, since those here are Lagrange's */
 static void weigh(void) {
     static uint8_t found[16];
-    latsefidy_weights(field, r, r + 1, 1, 0, 0, found, 16);
+    latsefidy_weights(field, r, r + 1, r, 0, 0, found, 16);
 }
 /* the strip as if each column made its own weights: by the call that repairs one symbol */
 static void one_by_one(void) {
     uint8_t column[16];
     for (int i = 0; i < l; i++) {
         for (int j = 0; j < r; j++) column[j] = mates[j * l + i];
-        output[i] = (uint8_t)latsefidy_repair(field, r, r + 1, 1, 0, 0, column, r);
+        output[i] = (uint8_t)latsefidy_repair(field, r, r + 1, r, 0, 0, column, r);
     }
 }
 /* its tables are made each time, from weights made before the clock starts */

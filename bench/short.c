@@ -21,34 +21,12 @@ static int slot, count[2];
 /* what a call made */
 static uint8_t made[N], made_marks[N], back[N], out[LONG], work[N * (N + 1)];
 
-static uint8_t point(int group, int member) { return power(2, (group + member * (255 / (r + 1))) % 255); }
-
-/* h at x: the product of x less each point that the short group lacks */
-static uint8_t vanishing(uint8_t x) {
-    uint8_t h = 1;
-    for (int i = r + 1 - missing; i <= r; i++) h = mul(h, x ^ point(groups - 1, i));
-    return h;
-}
-
-/* the generator matrix of the short code: powers of g times powers of X, then h times powers of X; g is X to the power r + 1
-   less what that is on the last group */
-static void generate_short(uint8_t *generator) {
-    int lead = k[1] + missing - r;
-    for (int p = 0; p < n[1]; p++) {
-        uint8_t x = point(p / (r + 1), p % (r + 1)), h = vanishing(x);
-        uint8_t g = power(x, r + 1) ^ power(point(groups - 1, 0), r + 1);
-        for (int m = 0; m < k[1]; m++)
-            generator[p * k[1] + m] = m < lead ? mul(power(g, 1 + m / r), power(x, m % r)) : mul(h, power(x, m - lead));
-    }
-}
-
 static void take_code(const int *code) {
     static uint8_t generator[N * N];
     r = code[0], groups = (code[1] + r) / (r + 1), missing = groups * (r + 1) - code[1];
     for (int w = 0; w < 2; w++) {
         n[w] = code[1] + (w ? 0 : missing), k[w] = code[2] + (w ? 0 : missing);
-        if (w) generate_short(generator);
-        else generate(r, n[w], k[w], generator);
+        generate(r, n[w], k[w], generator);
         for (int m = 0; m < k[w]; m++) message[w][m] = rand() >> 8;
         for (int p = 0; p < n[w]; p++) {
             truth[w][p] = 0;
@@ -77,7 +55,7 @@ static void take_strips(int group) {
         for (int c = 0; c < LONG; c++)
             for (int m = 0; m < count[w]; m++) coefficients[c][m] = rand() >> 8;
         for (int i = 0; i <= count[w]; i++) {
-            uint8_t x = point(group, i), h = lacks ? vanishing(x) : 1;
+            uint8_t x = point(r, group, i), h = lacks ? vanishing(r, n[1], x) : 1;
             uint8_t *to = i == 1 ? strip[w] : mates[w] + (i > 1 ? i - 1 : 0) * LONG;
             for (int c = 0; c < LONG; c++) {
                 uint8_t symbol = 0;
