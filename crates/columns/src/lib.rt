@@ -43,7 +43,19 @@ fn plain_columns(field: u32, weights: &[u8; 16], r: usize, strips: &[u8], output
     }
 }
 
-// Rebuilds many columns: writes to each place of output the sum of weight times symbol over its column of the strips; over bytes by the kernel.
+// Writes to each place of output the sum of weight times symbol over its column of the strips; over bytes by the kernel.
+pub fn weigh_columns(field: u32, weights: &[u8; 16], r: usize, strips: &[u8], output: &mut [u8])
+    requires { ⌜ (r ≤ 16) × (r ≤ length (now weights)) × (length (now output) ≤ 4096) × (length (now strips) ≡ r * length (now output)) ⌝ }
+    ensures { λ _. ⌜ now (output .exit) ≡ weighed field (now (weights .entry)) r (length (now (output .entry))) (now (strips .entry)) ⌝ }
+{
+    if field == 0 {
+        plain_columns(field, weights, r, strips, output);
+        return;
+    }
+    kernel::combine(weights, r, strips, output);
+}
+
+// Rebuilds many columns: writes to each place of output the sum of weight times symbol over its column of the strips; one alone as repair does.
 pub fn rebuild_columns(field: u32, weights: &[u8; 16], r: usize, strips: &[u8], output: &mut [u8])
     requires { ⌜ (r ≤ 16) × (r ≤ length (now weights)) × (length (now output) ≤ 4096) × (length (now strips) ≡ r * length (now output)) ⌝ }
     ensures { λ _. ⌜ now (output .exit) ≡ weighed field (now (weights .entry)) r (length (now (output .entry))) (now (strips .entry)) ⌝ }
@@ -52,9 +64,5 @@ pub fn rebuild_columns(field: u32, weights: &[u8; 16], r: usize, strips: &[u8], 
         output[0] = rebuild_column(field, weights, r, strips);
         return;
     }
-    if field == 0 {
-        plain_columns(field, weights, r, strips, output);
-        return;
-    }
-    kernel::combine(weights, r, strips, output);
+    weigh_columns(field, weights, r, strips, output);
 }

@@ -33,24 +33,14 @@ returns c =
     let F = filled-more sum 0 (c .rebuild-column .result) (a .output .now) (a .output .now) (omega arith) e (filled-none sum (a .output .now)) in
     filled-all sum 1 l (a .output .now) (set (a .output .now) 0 (c .rebuild-column .result)) (sym one) refl F
 
-plain-columns-requires : tie.Need-plain-columns-requires
-plain-columns-requires c κs = search needs
+weigh-columns-requires : tie.Need-weigh-columns-requires
+weigh-columns-requires c κs = search needs
 
 same-length-2 : tie.Need-same-length-2
 same-length-2 c = search needs
 
 returns-2 : tie.Need-returns-2
 returns-2 c = search needs
-
-combine-requires : tie.Need-combine-requires
-combine-requires c κs = search needs
-
-same-length-3 : tie.Need-same-length-3
-same-length-3 c = search needs
-
-returns-3 : tie.Need-returns-3
-returns-3 c =
-    c .before .before .combine .ensures (c .before .before .before .before .before .before .before .before .args .field) (c .before .before .before .before .if2 .left)
 
 pub rebuild-columns-spec : {M : Type 1} → statement M
 rebuild-columns-spec =
@@ -60,9 +50,6 @@ rebuild-columns-spec =
     slice-write-output
     same-length
     returns
-    plain-columns-requires
+    weigh-columns-requires
     same-length-2
-    returns-2
-    combine-requires
-    same-length-3
-    returns-3)
+    returns-2)
