@@ -31,13 +31,21 @@ fn mend_group(
     let i = spans::lost_member(marks, step, members);
     let member = i as u32;
     let slot = layout::slot_at(shape, group, member);
+    let weights = weights::weights_of(shape, slot);
+    let number = members - 1;
     let mates = spans::mates_of(shape, group, part, member);
-    if !parity::mates_held(shape, slot, &mates) {
+    let q = tables::order(shape.field);
+    if !questions::strips_below(&mates[..number], q) {
         return 0;
     }
-    let weights = weights::weights_of(shape, slot);
+    let n = parity::checks_with(shape, number as u32) as usize;
+    if n != 0 {
+        if !parity::pass_checks(shape, slot, n, &mates) {
+            return 0;
+        }
+    }
     let place = i * step;
-    part[place] = arithmetic::dot(shape.field, &weights, &mates, members - 1, powers, logs);
+    part[place] = arithmetic::dot(shape.field, &weights, &mates, number, powers, logs);
     marks[place] = 0;
     1
 }

@@ -1,5 +1,6 @@
 -- Parity checks of the symbols at a slot's mates. Assumes nothing: these are definitions.
---   checks s p            == how many there are: r - k where the slot's group is whole, none where k is r or more or the group is short
+--   checks-with s m       == how many checks a slot with m mates has: r - k where they are r, none where k is r or more or the group is short
+--   checks s p            == how many slot p has
 --   term s l x            == x to the power l + 1; where the last group is short, x to the power l divided by h at x
 --   check-weights s p l   == the weights of check l: the repair weight of the mate, times its term less the slot's
 --   passes s p ys         == for each check the sum of weight times symbol is 0
@@ -16,8 +17,11 @@ use Rattle.code.specs.Shape.{whole, point, others, mates}
 use Rattle.code.specs.Basis.{vanishing}
 use Rattle.code.specs.Repair.{weight-over}
 
+unfoldable pub checks-with : Shape → (number : ℕ) → ℕ
+checks-with s m = cond (eqb m (s .r)) (s .r - s .k) 0
+
 unfoldable pub checks : Shape → (slot : ℕ) → ℕ
-checks s p = cond (eqb (length (mates s p)) (s .r)) (s .r - s .k) 0
+checks s p = checks-with s (length (mates s p))
 
 unfoldable pub scale : Shape → (x : ℕ) → ℕ
 scale s x = cond (whole s) x (inverse (s .field) (vanishing s x))

@@ -6,22 +6,20 @@ ghost use Rattle.algebra.specs.Writing.{Laid};
 ghost use Rattle.field.specs.Table.{Powers, Logs};
 ghost use Rattle.code.specs.Shape.{room, point, mates};
 ghost use Rattle.code.specs.Repair.{weights};
-ghost use Rattle.code.specs.Held.{held};
-ghost use Rattle.code.specs.Laws.{Placed, Mending, Decodable};
+ghost use Rattle.code.specs.Laws.{Placed, Mending};
 ghost use Rattle.weights.specs.Weights.{sixteen};
-ghost use Rattle.parity.specs.Parity.{checks, scale, term, check-weights, passes};
+ghost use Rattle.parity.specs.Parity.{checks-with, checks, scale, term, check-weights, passes};
 ghost use Rattle.parity.specs.Step.{Terms};
 use code::Shape;
 
-// How many checks there are.
-pub fn checks_of(shape: Shape, slot: u32) -> u32
-    requires { ⌜ Mending shape × (slot < shape .n) ⌝ }
-    ensures { λ x. ⌜ x ≡ checks shape slot ⌝ }
+// How many checks a slot with so many mates has.
+pub fn checks_with(shape: Shape, number: u32) -> u32
+    ensures { λ x. ⌜ x ≡ checks-with shape number ⌝ }
 {
     if shape.k >= shape.r {
         return 0;
     }
-    if layout::mates_number(shape, slot) < shape.r {
+    if number != shape.r {
         return 0;
     }
     shape.r - shape.k
@@ -107,7 +105,7 @@ pub fn check_weights(
 }
 
 // Whether the symbols pass n checks, which are all.
-fn pass_checks(shape: Shape, slot: u32, n: usize, symbols: &[u8]) -> bool
+pub fn pass_checks(shape: Shape, slot: u32, n: usize, symbols: &[u8]) -> bool
     requires { ⌜ Mending shape × (slot < shape .n) × (n ≡ checks shape slot) × (length (mates shape slot) ≤ length (now symbols)) ⌝ }
     ensures { λ x. ⌜ x ≡ passes shape slot (now (symbols .entry)) ⌝ }
 {
@@ -125,21 +123,4 @@ fn pass_checks(shape: Shape, slot: u32, n: usize, symbols: &[u8]) -> bool
         l += 1;
     }
     true
-}
-
-// Whether some codeword has these symbols at the slot's mates; one that is not below q no codeword has.
-pub fn mates_held(shape: Shape, slot: u32, symbols: &[u8]) -> bool
-    requires { ⌜ Decodable shape × (slot < shape .n) × (length (mates shape slot) ≤ length (now symbols)) ⌝ }
-    ensures { λ x. ⌜ x ≡ held shape (mates shape slot) (now (symbols .entry)) ⌝ }
-{
-    let number = layout::mates_number(shape, slot) as usize;
-    let q = tables::order(shape.field);
-    if !questions::strips_below(&symbols[..number], q) {
-        return false;
-    }
-    let n = checks_of(shape, slot);
-    if n == 0 {
-        return true;
-    }
-    pass_checks(shape, slot, n as usize, symbols)
 }

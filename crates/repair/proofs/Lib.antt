@@ -1,3 +1,4 @@
 pub mod Refusals
+pub mod Asking
 pub mod Strips
 pub mod Promises

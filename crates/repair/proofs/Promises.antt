@@ -37,7 +37,7 @@ use Rattle.parity.proofs.Promises.{any-mates}
 use Rattle.strip_parity.proofs.Columns.{columns-one}
 use Rattle.repair.specs.Mates.{mates-refusal, Repair-says, Rebuild-says}
 use Rattle.repair.specs.Promise.{Mates-wanted, Given, Repair-holds, Repair-restores, Repair-told, Foreign, Repair-refuses, Repair-open, Strips, Rebuild-restores, Rebuild-refuses, Rebuild-weighs, Rebuild-repairs, Promises}
-use Rattle.repair.proofs.Refusals.{last-yes, last-no, was-yes, was-no, Mates-passed, mates-passed, mates-asked, mates-accepted}
+use Rattle.repair.proofs.Refusals.{last-yes, last-no, was-yes, was-no, mates-passed, mates-asked, mates-accepted}
 use Rattle.repair.proofs.Strips.{strip-is, strip-at}
 
 pub mates-wanted : Mates-wanted
@@ -59,13 +59,24 @@ mates-wanted s p M =
     go w (yes h) = omega (arith, mates-number-is s p h, mates-whole s P w p h, size-is s, M .one)
     go w (no h) = none (omega arith)
 
+-- strips of one symbol
+one-symbol : (s : Shape) (p : ℕ) (xs : List ℕ) → p < s .n → length xs ≡ length (mates s p) * 1 → all-below (q (s .field)) xs ≡ true → Strips s p 1 xs
+one-symbol s p xs h e b =
+    record {
+      slot = h;
+      least = omega arith;
+      most = omega arith;
+      long = e;
+      below = b;
+    }
+
 -- given mates: the last question decides
 module _ (s : Shape) (p : ℕ) (xs : List ℕ) (G : Given s p xs) where
   one-column : length xs ≡ length (mates s p) * 1
   one-column = omega (arith, G .long)
 
   repair-asked : mates-refusal 0 s p 1 xs ≡ ask (held s (mates s p) xs) 9 0
-  repair-asked = mates-asked 0 s p 1 xs refl (omega arith) (omega arith) one-column (G .slot) (G .below) ∙ ap (λ b. ask b 9 0) (sym (columns-one s p xs one-column))
+  repair-asked = mates-asked 0 s p 1 xs refl (one-symbol s p xs (G .slot) one-column (G .below)) ∙ ap (λ b. ask b 9 0) (sym (columns-one s p xs one-column))
 
   repair-accepted : held s (mates s p) xs ≡ true → mates-refusal 0 s p 1 xs ≡ 0
   repair-accepted e = repair-asked ∙ last-yes (held s (mates s p) xs) e
@@ -133,7 +144,7 @@ repair-open s p xs x D G c says =
 -- the last question of strips
 module _ (s : Shape) (p l : ℕ) (strips : List ℕ) (G : Strips s p l strips) where
   rebuild-asked : mates-refusal 0 s p l strips ≡ ask (columns-held s p l strips) 9 0
-  rebuild-asked = mates-asked 0 s p l strips refl (G .least) (G .most) (G .long) (G .slot) (G .below)
+  rebuild-asked = mates-asked 0 s p l strips refl G
 
   abbrev column-held : ℕ → Bool
   column-held i = held s (mates s p) (column (length (mates s p)) l i strips)
@@ -182,7 +193,7 @@ module _ (n : ℕ) (s : Shape) (p : ℕ) (strips : List ℕ) (x : ℕ) (a z : Li
   unfolding Rebuild-says
   none-refused = fills-none (mates-refusal n s p (length a) strips) (strip s p (length a) strips) x a z e says
 
-  passed : Mates-passed n s p (length a) strips
+  passed : (n ≡ 0) × Strips s p (length a) strips × (columns-held s p (length a) strips ≡ true)
   passed = mates-passed n s p (length a) strips none-refused
 
   written : z ≡ strip s p (length a) strips
@@ -193,9 +204,9 @@ pub rebuild-weighs : Rebuild-weighs
 unfolding Rebuild-weighs
 rebuild-weighs n s p strips w x a z m weighs says e =
     let Q = passed n s p strips x a z says e in
-    let v = weights-accepted n s p (Q .accepted) (Q .slot-below) in
+    let v = weights-accepted n s p (Q .0) (Q .1 .slot) in
     let u = weights-answered n s p w v weighs in
-    (weighs .refusal ∙ v, written n s p strips x a z says e ∙ sym (strip-is s (m (Q .accepted)) p (Q .slot-below) (length a) (w .weights) strips u (length (mates s p)) refl))
+    (weighs .refusal ∙ v, written n s p strips x a z says e ∙ sym (strip-is s (m (Q .0)) p (Q .1 .slot) (length a) (w .weights) strips u (length (mates s p)) refl))
 
 pub rebuild-repairs : Rebuild-repairs
 unfolding Rebuild-repairs Repair-says columns-held
@@ -204,10 +215,10 @@ rebuild-repairs n s p strips x a z i y m says e h repairs =
     let k = length (mates s p) in
     let c = column k (length a) i strips in
     let l = length-column k (length a) strips i in
-    let b = column-below k (length a) strips i (q (s .field)) h (Q .length-is) (Q .below) in
+    let b = column-below k (length a) strips i (q (s .field)) h (Q .1 .long) (so (Q .1 .below)) in
     let o : length c ≡ k * 1 = omega arith in
-    let t = every-at (λ i. held s (mates s p) (column k (length a) i strips)) (length a) (so (Q .true-mates)) i h in
-    let r = mates-accepted n s p 1 c (Q .accepted) (omega arith) (omega arith) o (Q .slot-below) b (sym (columns-one s p c o) ∙ yes-true (held s (mates s p) c) t) in
+    let t = every-at (λ i. held s (mates s p) (column k (length a) i strips)) (length a) (so (Q .2)) i h in
+    let r = mates-accepted n s p 1 c (Q .0) (one-symbol s p c (Q .1 .slot) o b) (sym (columns-one s p c o) ∙ yes-true (held s (mates s p) c) t) in
     let A = answers-in (mates-refusal n s p 1 c) (repaired s p c) y r repairs in
     (A .0, ap (λ ys. at ys i) (written n s p strips x a z says e) ∙ strip-at s p (length a) strips i h ∙ sym (A .1))
 

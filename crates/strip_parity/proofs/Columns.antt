@@ -3,6 +3,7 @@
 --   columns-told      some codeword has every column just where every check's strip is 0
 --   columns-any       no check: some codeword has every column
 --   columns-one       strips of one symbol are the mates' symbols
+--   one-told          so the checks of these tell
 use mathlib.Core.Path.{_≡_, refl, sym, ap, ap₂, _∙_}
 use mathlib.Core.Bool.{Bool, true, false, _&&_}
 use mathlib.Core.List.{List}
@@ -116,3 +117,10 @@ columns-one s p xs long =
     let c = column n 1 0 xs in
     held-cong s (mates s p) xs c (λ i h. let e : i ≡ i * 1 + 0 = omega arith in ap (at xs) e ∙ sym (at-column n 1 xs 0 i h))
     ∙ sym (and-true (held s (mates s p) c))
+
+pub one-told : (s : Shape) → Decodable s → (p : ℕ) → p < s .n → (xs : List ℕ) → length xs ≡ length (mates s p) * 1 → all-below (q (s .field)) xs ≡ true
+    → passes s p xs ≡ columns-held s p 1 xs
+unfolding Checks-tell
+one-told s D p h xs long below =
+    let Y : Symbols s p xs = (omega arith, λ i b. all-below-at (q (s .field)) xs (so below) i (omega arith)) in
+    sym (checks-tell s p xs D h Y) ∙ columns-one s p xs long

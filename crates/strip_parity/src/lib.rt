@@ -20,7 +20,7 @@ fn sums_zero(field: u32, weights: &[u8; 16], r: usize, strips: &[u8], sums: &mut
     requires { ⌜ (r ≤ 16) × (r ≤ length (now weights)) × (length (now sums) ≤ 4096) × (length (now strips) ≡ r * length (now sums)) ⌝ }
     ensures { λ x. ⌜ (x ≡ all-below 1 (weighed field (now (weights .entry)) r (length (now (sums .entry))) (now (strips .entry)))) × (length (now (sums .exit)) ≡ length (now (sums .entry))) ⌝ }
 {
-    columns::rebuild_columns(field, weights, r, strips, sums);
+    columns::weigh_columns(field, weights, r, strips, sums);
     questions::strips_below(sums, 1)
 }
 
@@ -69,7 +69,7 @@ fn annulled(field: u32, n: usize, rows: &[u8], r: usize, strips: &[u8], sums: &m
 }
 
 // Whether the columns pass n checks, which are all.
-fn pass_checks(shape: Shape, slot: u32, n: usize, strips: &[u8], sums: &mut [u8]) -> bool
+fn columns_pass(shape: Shape, slot: u32, n: usize, strips: &[u8], sums: &mut [u8]) -> bool
     requires { ⌜ Mending shape × (slot < shape .n) × (n ≡ checks shape slot) × (length (now sums) ≤ 4096) × (length (now strips) ≡ length (mates shape slot) * length (now sums)) × (all-below (q (shape .field)) (now strips) ≡ true) ⌝ }
     ensures { λ x. ⌜ x ≡ columns-pass shape slot (length (now (sums .entry))) (now (strips .entry)) ⌝ }
 {
@@ -81,18 +81,14 @@ fn pass_checks(shape: Shape, slot: u32, n: usize, strips: &[u8], sums: &mut [u8]
     annulled(shape.field, n, &rows, number, strips, sums)
 }
 
-// Whether some codeword has the symbols of every column at the slot's mates.
-pub fn columns_held(shape: Shape, slot: u32, strips: &[u8], l: usize) -> bool
-    requires { ⌜ Decodable shape × (slot < shape .n) × (1 ≤ l) × (l ≤ 4096) × (length (now strips) ≡ length (mates shape slot) * l) × (all-below (q (shape .field)) (now strips) ≡ true) ⌝ }
+// Whether some codeword has the symbols of every column at the slot's mates; n is the number of checks.
+pub fn columns_held(shape: Shape, slot: u32, n: usize, strips: &[u8], l: usize) -> bool
+    requires { ⌜ Decodable shape × (slot < shape .n) × (n ≡ checks shape slot) × (1 ≤ l) × (l ≤ 4096) × (length (now strips) ≡ length (mates shape slot) * l) × (all-below (q (shape .field)) (now strips) ≡ true) ⌝ }
     ensures { λ x. ⌜ x ≡ columns-held shape slot l (now (strips .entry)) ⌝ }
 {
-    let n = parity::checks_of(shape, slot) as usize;
-    if n == 0 {
-        return true;
-    }
     if l == 1 {
-        return parity::mates_held(shape, slot, strips);
+        return parity::pass_checks(shape, slot, n, strips);
     }
     let mut sums = [0u8; 4096];
-    pass_checks(shape, slot, n, strips, &mut sums[..l])
+    columns_pass(shape, slot, n, strips, &mut sums[..l])
 }

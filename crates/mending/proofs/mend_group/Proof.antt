@@ -1,22 +1,28 @@
 use borrow.Author.Needs.{needs}
 use mathlib.Core.Path.{_≡_, refl, sym, ap, ap₂, subst, _∙_}
 use mathlib.Core.Bool.{Bool, true, false, _&&_}
+use mathlib.Core.Logic.{⊎-elim}
 use mathlib.Core.List.{List}
 use Prim.Native.Nat.{ℕ, _*_, _-_, _≤_, _<_}
 use native.Mathlib.Omega.{arith}
-use lib.ListN.{length, set}
+use lib.ListN.{length, set, take}
+use lib.Seq.{length-take-le}
 use borrow.Author.Tests.{eq-eqb, ne-eqb, not-true, not-false}
-use Rattle.algebra.specs.Sequence.{at, count}
+use Rattle.algebra.specs.Sequence.{at, count, all-below}
 use Rattle.algebra.proofs.Booleans.{and-no-left}
 use Rattle.code.specs.declared.Shape.{Shape}
 use Rattle.code.specs.Shape.{step, members, slot-at, mates}
 use Rattle.code.specs.Decoding.{lost}
+use Rattle.code.specs.Held.{held}
 use Rattle.code.specs.Repair.{weights, repaired}
 use Rattle.code.proofs.Accepted.{mending}
 use Rattle.code.proofs.Mates.{member-slot, members-most}
 use Rattle.layout.specs.Step.{span}
 use Rattle.layout.proofs.Spans.{member-in-span, span-byte}
 use Rattle.weights.proofs.Sixteen.{length-sixteen}
+use Rattle.parity.specs.Parity.{checks, passes}
+use Rattle.parity.proofs.Counts.{checks-by}
+use Rattle.parity.proofs.Testing.{none-held, all-held, tells}
 use Rattle.spans.specs.Span.{lone, part-mates}
 use Rattle.mending.specs.Step.{part-held, part-mended, Members-set, instead, Group-mended}
 use Rattle.spans.proofs.Members.{mates-few}
@@ -124,34 +130,16 @@ slot-inside c =
     let s = c .before .before .before .before .before .before .before .before .before .before in
     omega (arith, c .slot-at .ensures, member-slot (s .args .shape) (s .pre .2 .plain .family .placed) (s .args .group) (c .before .lost-member .result) (member-within (c .before) .0))
 
+weights-of-requires : tie.Need-weights-of-requires
+weights-of-requires c κs = let s = c .before .before .before .before .before .before .before .before .before .before in (mending (s .args .shape) (s .pre .2), slot-inside c)
+
+sub-number : tie.Need-sub-number
+sub-number c = omega (arith, c .before .before .before .before .before .before .before .before .members-of .ensures .1)
+
 mates-of-requires : tie.Need-mates-of-requires
 mates-of-requires c κs =
-    let s = c .before .before .before .before .before .before .before .before .before .before .before in
-    (mending (s .args .shape) (s .pre .2), s .pre .3, member-within (c .before .before) .0, s .pre .4)
-
-slice-aggregate-mates-held : tie.Need-slice-aggregate-mates-held
-slice-aggregate-mates-held c = search needs
-
-mates-held-requires : tie.Need-mates-held-requires
-mates-held-requires c κs =
-    let s = c .before .before .before .before .before .before .before .before .before .before .before .before .before in
-    let a = s .args in
-    let h = a .shape in
-    let P = s .pre .2 .plain .family .placed in
-    let i = c .before .before .before .before .lost-member .result in
-    let m = member-within (c .before .before .before .before) in
-    let few = mates-few h P (a .group) i (s .pre .3) (m .0) in (
-      s .pre .2,
-      slot-inside (c .before .before .before),
-      omega (
-        arith,
-        few,
-        m .1,
-        ap (λ p. length (mates h p)) (c .before .before .before .slot-at .ensures),
-        ap (λ l. length l) (c .before .mates-of .ensures),
-        length-sixteen (part-mates h (a .group) i (a .part .now)),
-      ),
-    )
+    let s = c .before .before .before .before .before .before .before .before .before .before .before .before in
+    (mending (s .args .shape) (s .pre .2), s .pre .3, member-within (c .before .before .before) .0, s .pre .4)
 
 -- it is the only one that is lost
 only : (c : tie.After-lost-member) → let a = c .before .before .before .before .before .before .before .before .before .args in
@@ -168,24 +156,51 @@ only c =
       eq-eqb (at ms (i * step h)) 1 (ap (at ms) (sym place) ∙ c .lost-member .ensures .1),
     )
 
--- so some codeword has the group's kept symbols just where one has its mates'
-told : (c : tie.After-mates-held) → let a = c .before .before .before .before .before .before .before .before .before .before .before .before .before .before .args in
-    part-mended (a .shape) (a .group) (a .part .now) (a .marks .now) ≡ c .mates-held .result
+-- as many symbols as the slot has mates
+mates-many : (N : tie.After-mates-of) → let h = N .before .before .before .before .before .before .before .before .before .before .before .before .before .args .shape in
+    (N .before .before .before .before .before .before .before .before .before .before .members-of .result - 1 ≡ length (mates h (N .before .before .before .slot-at .result))) × (length (mates h (N .before .before .before .slot-at .result)) ≤ length (N .mates-of .result)) × (length (N .mates-of .result) ≡ 16)
+mates-many N =
+    let s = N .before .before .before .before .before .before .before .before .before .before .before .before .before in
+    let a = s .args in
+    let h = a .shape in
+    let i = N .before .before .before .before .lost-member .result in
+    let m = member-within (N .before .before .before .before) in
+    let few = mates-few h (s .pre .2 .plain .family .placed) (a .group) i (s .pre .3) (m .0) in
+    let p = ap (λ p. length (mates h p)) (N .before .before .before .slot-at .ensures) in
+    let l = ap (λ l. length l) (N .mates-of .ensures) ∙ length-sixteen (part-mates h (a .group) i (a .part .now)) in
+    (omega (arith, few, p, N .before .before .before .before .before .before .before .before .before .before .members-of .ensures .0), omega (arith, few, p, m .1, l), l)
+
+-- some codeword has the group's kept symbols just where one has its mates'
+told : (N : tie.After-mates-of) → let a = N .before .before .before .before .before .before .before .before .before .before .before .before .before .args in
+    (x : Bool) → x ≡ held (a .shape) (mates (a .shape) (N .before .before .before .slot-at .result)) (N .mates-of .result) → part-mended (a .shape) (a .group) (a .part .now) (a .marks .now) ≡ x
 unfolding part-mended
-told c =
-    let s = c .before .before .before .before .before .before .before .before .before .before .before .before .before .before in
+told N x e =
+    let s = N .before .before .before .before .before .before .before .before .before .before .before .before .before in
     let a = s .args in
     let h = a .shape in
     let j = a .group in
     let ws = a .part .now in
     let ms = a .marks .now in
-    let m = c .before .before .before .before .before in
+    let m = N .before .before .before .before in
     let i = m .lost-member .result in
-    let p = c .before .before .before .before .slot-at in
-    let N = c .before .before .mates-of in
+    let p = N .before .before .before .slot-at in
     let l = member-within m .0 in
     ap (λ b. b && part-held h j ws ms) (only m .0) ∙ held-lone h j i ws ms (only m .0) l (only m .1)
-    ∙ sym (mates-told h (mending h (s .pre .2)) j i (s .pre .3) l (p .result) (p .ensures) (N .result) ws (N .ensures)) ∙ sym (c .mates-held .ensures)
+    ∙ sym (mates-told h (mending h (s .pre .2)) j i (s .pre .3) l (p .result) (p .ensures) (N .mates-of .result) ws (N .mates-of .ensures)) ∙ sym e
+
+order-requires : tie.Need-order-requires
+order-requires c κs = search needs
+
+array-share-prefix-mates : tie.Need-array-share-prefix-mates
+array-share-prefix-mates c = omega (arith, mates-many (c .before))
+
+slice-aggregate-strips-below : tie.Need-slice-aggregate-strips-below
+slice-aggregate-strips-below c =
+    let N = c .before .before in
+    sym (length-take-le (N .before .before .before .before .before .before .before .before .before .before .members-of .result - 1) (N .mates-of .result) (omega (arith, mates-many N)))
+
+strips-below-requires : tie.Need-strips-below-requires
+strips-below-requires c κs = search needs
 
 same-length-2 : tie.Need-same-length-2
 same-length-2 c = search needs
@@ -195,48 +210,40 @@ same-length-3 c = search needs
 
 returns-2 : tie.Need-returns-2
 returns-2 c =
-    let a = c .before .before .before .before .before .before .before .before .before .before .before .before .before .before .before .args in
-    left (a .shape) (a .group) (a .part .now) (a .marks .now) (told (c .before) ∙ not-true (c .before .mates-held .result) (c .if2 .taken))
+    let b = c .before in
+    let o = b .before .before in
+    let N = o .before in
+    let a = N .before .before .before .before .before .before .before .before .before .before .before .before .before .args in
+    let m = mates-many N in
+    left (a .shape) (a .group) (a .part .now) (a .marks .now)
+    (told N false
+    (none-held (a .shape) (N .before .before .before .slot-at .result) (N .mates-of .result) (N .before .before .before .before .before .before .before .before .before .before .members-of .result - 1) (o .order .result) (m .0) (m .1) (o .order .ensures .0)
+    (sym (b .strips-below .ensures) ∙ not-true (b .strips-below .result) (c .if2 .taken))))
 
-weights-of-requires : tie.Need-weights-of-requires
-weights-of-requires c κs =
-    let s = c .before .before .before .before .before .before .before .before .before .before .before .before .before .before .before in (mending (s .args .shape) (s .pre .2), slot-inside (c .before .before .before .before .before))
+cast-checks-with : tie.Need-cast-checks-with
+cast-checks-with c = omega (arith, mates-many (c .before .before .before .before))
 
-mul-place : tie.Need-mul-place
-mul-place c = omega (arith, member-within (c .before .before .before .before .before .before .before))
+checks-with-requires : tie.Need-checks-with-requires
+checks-with-requires c κs = search needs
 
-slice-aggregate-dot : tie.Need-slice-aggregate-dot
-slice-aggregate-dot c = search needs
+cast-n : tie.Need-cast-n
+cast-n c = search needs
 
-slice-aggregate-dot-2 : tie.Need-slice-aggregate-dot-2
-slice-aggregate-dot-2 c = search needs
+slice-aggregate-pass-checks : tie.Need-slice-aggregate-pass-checks
+slice-aggregate-pass-checks c = search needs
 
-sub-dot : tie.Need-sub-dot
-sub-dot c = omega (arith, c .before .before .before .before .before .before .before .before .before .before .before .before .before .before .before .members-of .ensures .1)
+-- so many checks as the slot has
+counted-checks : (c : tie.After-checks-with) → let N = c .before .before .before .before .before in c .checks-with .result ≡ checks (N .before .before .before .before .before .before .before .before .before .before .before .before .before .args .shape) (N .before .before .before .slot-at .result)
+counted-checks c =
+    let N = c .before .before .before .before .before in
+    c .checks-with .ensures ∙ checks-by (N .before .before .before .before .before .before .before .before .before .before .before .before .before .args .shape) (N .before .before .before .slot-at .result) (N .before .before .before .before .before .before .before .before .before .before .members-of .result - 1) (mates-many N .0)
 
-dot-requires : tie.Need-dot-requires
-dot-requires c κs =
-    let s = c .before .before .before .before .before .before .before .before .before .before .before .before .before .before .before .before .before .before in
-    let a = s .args in
-    let i = c .before .before .before .before .before .before .before .before .before .lost-member .result in
-    let p = c .before .before .before .before .before .before .before .before .slot-at .result in
-    let z = c .before .before .before .before .before .before .before .before .before .before .before .before .before .before .before .members-of in
-    let few = member-within (c .before .before .before .before .before .before .before .before .before) .1 in (
-      s .pre .0,
-      s .pre .1,
-      omega (arith, z .ensures .0, few, ap (λ l. length l) (c .before .before .weights-of .ensures), length-sixteen (weights (a .shape) p)),
-      omega (arith, z .ensures .0, few, ap (λ l. length l) (c .before .before .before .before .before .before .mates-of .ensures), length-sixteen (part-mates (a .shape) (a .group) i (a .part .now))),
-    )
-
-slice-write-part : tie.Need-slice-write-part
-slice-write-part c =
-    let s = c .before .before .before .before .before .before .before .before .before .before .before .before .before .before .before .before .before .before .before in
-    omega (arith, member-within (c .before .before .before .before .before .before .before .before .before .before), s .pre .4)
-
-slice-write-marks : tie.Need-slice-write-marks
-slice-write-marks c =
-    let s = c .before .before .before .before .before .before .before .before .before .before .before .before .before .before .before .before .before .before .before in
-    omega (arith, member-within (c .before .before .before .before .before .before .before .before .before .before), s .pre .5)
+pass-checks-requires : tie.Need-pass-checks-requires
+pass-checks-requires c κs =
+    let n = c .before .before in
+    let N = n .before .before .before .before .before in
+    let s = N .before .before .before .before .before .before .before .before .before .before .before .before .before in
+    (mending (s .args .shape) (s .pre .2), slot-inside (N .before .before .before), counted-checks n, mates-many N .1)
 
 same-length-4 : tie.Need-same-length-4
 same-length-4 c = search needs
@@ -244,31 +251,104 @@ same-length-4 c = search needs
 same-length-5 : tie.Need-same-length-5
 same-length-5 c = search needs
 
+-- every mate's symbol is below q
+below : (c : tie.Else2) → let N = c .before .before .before .before in all-below (c .before .before .before .order .result) (take (N .before .before .before .before .before .before .before .before .before .before .members-of .result - 1) (N .mates-of .result)) ≡ true
+below c = sym (c .before .strips-below .ensures) ∙ not-false (c .before .strips-below .result) (c .if2 .left)
+
+-- what the checks answer
+checked : (c : tie.Else2) → let N = c .before .before .before .before in let h = N .before .before .before .before .before .before .before .before .before .before .before .before .before .args .shape in let p = N .before .before .before .slot-at .result in
+    (x : Bool) → x ≡ passes h p (N .mates-of .result) → x ≡ held h (mates h p) (N .mates-of .result)
+checked c =
+    let o = c .before .before .before in
+    let N = o .before in
+    let s = N .before .before .before .before .before .before .before .before .before .before .before .before .before in
+    let m = mates-many N in
+    tells (s .args .shape) (N .before .before .before .slot-at .result) (N .mates-of .result) (N .before .before .before .before .before .before .before .before .before .before .members-of .result - 1) (o .order .result) (m .0) (m .1) (o .order .ensures .0)
+    (s .pre .2) (slot-inside (N .before .before .before)) (below c)
+
 returns-3 : tie.Need-returns-3
 returns-3 c =
-    let s = c .before .before .before .before .before .before .before .before .before .before .before .before .before .before .before .before .before .before .before in
+    let x = c .before in
+    let t = x .before .before .before .before in
+    let N = t .before .before .before .before in
+    let a = N .before .before .before .before .before .before .before .before .before .before .before .before .before .args in
+    left (a .shape) (a .group) (a .part .now) (a .marks .now)
+    (told N (x .pass-checks .result) (checked t (x .pass-checks .result) (x .pass-checks .ensures)) ∙ not-true (x .pass-checks .result) (c .if4 .taken))
+
+-- the group is mended
+mended : (c : tie.Joined3) → let a = c .before .before .before .before .before .before .before .before .before .before .before .before .before .before .before .before .before .before .before .args in part-mended (a .shape) (a .group) (a .part .now) (a .marks .now) ≡ true
+mended c =
+    let n = c .before in
+    let t = n .before in
+    let o = t .before .before .before in
+    let N = o .before in
+    let s = N .before .before .before .before .before .before .before .before .before .before .before .before .before in
+    let m = mates-many N in
+    ⊎-elim
+    (λ w. told N _ (checked t _ (w .2 .ensures)) ∙ not-false _ (w .3 .left))
+    (λ w. told N true
+    (all-held (s .args .shape) (N .before .before .before .slot-at .result) (N .mates-of .result) (N .before .before .before .before .before .before .before .before .before .before .members-of .result - 1) (o .order .result) (m .0) (m .1) (o .order .ensures .0)
+    (s .pre .2) (slot-inside (N .before .before .before)) (below t) (sym (counted-checks n) ∙ w .left)))
+    (c .if3 .came)
+
+mul-place : tie.Need-mul-place
+mul-place c = omega (arith, member-within (c .before .before .before .before .before .before .before .before .before .before))
+
+slice-aggregate-dot : tie.Need-slice-aggregate-dot
+slice-aggregate-dot c = search needs
+
+slice-aggregate-dot-2 : tie.Need-slice-aggregate-dot-2
+slice-aggregate-dot-2 c = search needs
+
+dot-requires : tie.Need-dot-requires
+dot-requires c κs =
+    let N = c .before .before .before .before .before .before .before .before in
+    let s = N .before .before .before .before .before .before .before .before .before .before .before .before .before in
+    let z = N .before .before .before .before .before .before .before .before .before .before .members-of in
+    let few = member-within (N .before .before .before .before) .1 in (
+      s .pre .0,
+      s .pre .1,
+      omega (arith, z .ensures .0, few, ap (λ l. length l) (N .before .before .weights-of .ensures), length-sixteen (weights (s .args .shape) (N .before .before .before .slot-at .result))),
+      omega (arith, z .ensures .0, few, mates-many N .2),
+    )
+
+slice-write-part : tie.Need-slice-write-part
+slice-write-part c = let N = c .before .before .before .before .before .before .before .before .before in omega (arith, member-within (N .before .before .before .before), N .before .before .before .before .before .before .before .before .before .before .before .before .before .pre .4)
+
+slice-write-marks : tie.Need-slice-write-marks
+slice-write-marks c = let N = c .before .before .before .before .before .before .before .before .before in omega (arith, member-within (N .before .before .before .before), N .before .before .before .before .before .before .before .before .before .before .before .before .before .pre .5)
+
+same-length-6 : tie.Need-same-length-6
+same-length-6 c = search needs
+
+same-length-7 : tie.Need-same-length-7
+same-length-7 c = search needs
+
+returns-4 : tie.Need-returns-4
+returns-4 c =
+    let N = c .before .before .before .before .before .before .before .before .before in
+    let s = N .before .before .before .before .before .before .before .before .before .before .before .before .before in
     let a = s .args in
     let h = a .shape in
     let j = a .group in
     let M = mending h (s .pre .2) in
     let ws = a .part .now in
     let ms = a .marks .now in
-    let m = c .before .before .before .before .before .before .before .before .before .before in
+    let m = N .before .before .before .before in
     let i = m .lost-member .result in
-    let t = c .before .before .before .before .before .before .before .before .before .before .before .before .before .before .before .step-of in
-    let z = c .before .before .before .before .before .before .before .before .before .before .before .before .before .before .before .before .members-of in
-    let p = c .before .before .before .before .before .before .before .before .before .slot-at in
-    let W = c .before .before .before .weights-of in
-    let N = c .before .before .before .before .before .before .before .mates-of in
+    let t = N .before .before .before .before .before .before .before .before .before .step-of in
+    let z = N .before .before .before .before .before .before .before .before .before .before .members-of in
+    let p = N .before .before .before .slot-at in
+    let W = N .before .before .weights-of in
     let b : Bool = part-mended h j ws ms in
-    let y : b ≡ true = told (c .before .before .before .before .before) ∙ not-false (c .before .before .before .before .before .mates-held .result) (c .before .before .before .before .if2 .left) in
+    let y : b ≡ true = mended (c .before .before .before) in
     let place : i * t .result ≡ i * step h = ap (λ n. i * n) (t .ensures) in
     let inside : i * step h < span h j = omega (arith, member-within m .2) in
     let l = member-within m .0 in
     let v = c .dot .result in
     let g : ℕ → ℕ = λ k. repaired h (slot-at h j k) (part-mates h j k ws) in
     let e : v ≡ g i = c .dot .ensures
-    ∙ mended-symbol h M j i (s .pre .3) l (p .result) (z .result - 1) (p .ensures) (ap (λ n. n - 1) (z .ensures .0)) (W .result) (N .result) ws (W .ensures) (N .ensures) in
+    ∙ mended-symbol h M j i (s .pre .3) l (p .result) (z .result - 1) (p .ensures) (ap (λ n. n - 1) (z .ensures .0)) (W .result) (N .mates-of .result) ws (W .ensures) (N .mates-of .ensures) in
     record {
       number = rw y refl;
       word = subst (λ (n : ℕ). Members-set h j (instead h b ms g ws) ws (set ws n v)) (sym place)
@@ -291,20 +371,30 @@ mend-group-spec =
     lost-member-requires
     cast-member
     slot-at-requires
+    weights-of-requires
+    sub-number
     mates-of-requires
-    slice-aggregate-mates-held
-    mates-held-requires
+    order-requires
+    array-share-prefix-mates
+    slice-aggregate-strips-below
+    strips-below-requires
     same-length-2
     same-length-3
     returns-2
-    weights-of-requires
+    cast-checks-with
+    checks-with-requires
+    cast-n
+    slice-aggregate-pass-checks
+    pass-checks-requires
+    same-length-4
+    same-length-5
+    returns-3
     mul-place
     slice-aggregate-dot
     slice-aggregate-dot-2
-    sub-dot
     dot-requires
     slice-write-part
     slice-write-marks
-    same-length-4
-    same-length-5
-    returns-3)
+    same-length-6
+    same-length-7
+    returns-4)

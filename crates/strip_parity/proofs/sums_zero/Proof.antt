@@ -7,8 +7,8 @@ use Rattle.field.specs.Polynomial.{dotted}
 use Rattle.strip_parity.proofs.sums_zero.Statement.{statement}
 use Rattle.strip_parity.proofs.sums_zero.Tie as tie
 
-rebuild-columns-requires : tie.Need-rebuild-columns-requires
-rebuild-columns-requires c κs = search needs
+weigh-columns-requires : tie.Need-weigh-columns-requires
+weigh-columns-requires c κs = search needs
 
 strips-below-requires : tie.Need-strips-below-requires
 strips-below-requires c κs = search needs
@@ -19,9 +19,9 @@ same-length c = search needs
 returns : tie.Need-returns
 returns c =
     let a = c .before .before .before .before .before .before .before .before .args in
-    let e = c .before .before .before .before .rebuild-columns .ensures in
+    let e = c .before .before .before .before .weigh-columns .ensures in
     let l = length (a .sums .now) in
     (c .strips-below .ensures ∙ ap (all-below 1) e, ap length e ∙ length-tabulate (λ i. dotted (a .field) (take (a .r) (a .weights .now)) (column (a .r) l i (a .strips .now))) l)
 
 pub sums-zero-spec : {M : Type 1} → statement M
-sums-zero-spec = tie.close (tie.spec rebuild-columns-requires strips-below-requires same-length returns)
+sums-zero-spec = tie.close (tie.spec weigh-columns-requires strips-below-requires same-length returns)

@@ -8,8 +8,8 @@ use Rattle.code.proofs.Bounds.{r-most}
 use Rattle.code.proofs.Mates.{mates-number-is}
 use Rattle.parity.proofs.Counts.{checks-most}
 use Rattle.strip_parity.proofs.Reduced.{rows-pass}
-use Rattle.strip_parity.proofs.pass_checks.Statement.{statement}
-use Rattle.strip_parity.proofs.pass_checks.Tie as tie
+use Rattle.strip_parity.proofs.columns_pass.Statement.{statement}
+use Rattle.strip_parity.proofs.columns_pass.Tie as tie
 
 power-table-requires : tie.Need-power-table-requires
 power-table-requires c κs = search needs
@@ -67,8 +67,8 @@ returns c =
     ∙ rows-pass (a .shape) (s .pre .0) (a .slot) (s .pre .1) l (a .strips .now) (s .pre .4) (s .pre .5) (a .n) (m .mates-number .result) l (c .before .before .before .before .before .before .before .before .before .before .check-rows .result)
     (c .before .before .before .before .before .before .reduce-for .last .1 .1 .1 .0) (s .pre .2) (number m) (m .mates-number .ensures .1) refl (c .before .before .before .before .before .before .before .before .before .before .check-rows .ensures) (c .before .before .before .before .before .before .reduce-for .ensures)
 
-pub pass-checks-spec : {M : Type 1} → statement M
-pass-checks-spec =
+pub columns-pass-spec : {M : Type 1} → statement M
+columns-pass-spec =
     tie.close
     (tie.spec
     power-table-requires
