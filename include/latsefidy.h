@@ -39,9 +39,9 @@
  *
  * Alignment. Bytes may stand anywhere; a buffer of 32-bit numbers is aligned as uint32_t is.
  *
- * Stack. Report and preview_sheet take about 66 kilobytes, rebuild about 10, repair about 8, decode
- * and record less than 6, preview less than 4, the others 3 or less. No other memory is needed but
- * the buffers. (Measured on the compiled code; no proof covers it.)
+ * Stack. Report and preview_sheet take about 66 kilobytes, rebuild about 10 where k is below r and
+ * less than 3 where not, decode and record less than 6, preview less than 4, the others 3 or less.
+ * No other memory is needed but the buffers. (Measured on the compiled code; no proof covers it.)
  *
  * Processors. The archive is for x86-64 and uses SSE2 alone, which each of them has. One built for
  * newer processors (tools/build-for) does not test where it runs: on an older one the program ends
