@@ -1,5 +1,5 @@
 -- How many checks there are. Assumes nothing.
---   with-r, with-fewer, with-none           with r mates, with another number, where k is r or more
+--   with-r, with-other, with-none           with r mates, with another number, where k is r or more
 --   checks-by                               those of a slot, by the number of its mates
 --   checks-full, checks-few, checks-none    where the slot has r mates, where it has fewer, where k is r or more
 --   checks-most                             at most r
@@ -20,9 +20,9 @@ module _ (s : Shape) (m : ℕ) where
   unfolding checks-with
   with-r h = rw (eq-eqb m (s .r) h) refl
 
-  pub with-fewer : m ≢ s .r → checks-with s m ≡ 0
+  pub with-other : m ≢ s .r → checks-with s m ≡ 0
   unfolding checks-with
-  with-fewer h = rw (ne-eqb m (s .r) h) refl
+  with-other h = rw (ne-eqb m (s .r) h) refl
 
   pub with-none : s .r ≤ s .k → checks-with s m ≡ 0
   unfolding checks-with
@@ -51,7 +51,7 @@ module _ (s : Shape) (p : ℕ) where
 
   pub checks-few : length (mates s p) < s .r → checks s p ≡ 0
   unfolding checks
-  checks-few h = with-fewer s (length (mates s p)) (λ e. omega arith)
+  checks-few h = with-other s (length (mates s p)) (λ e. omega arith)
 
   pub checks-none : s .r ≤ s .k → checks s p ≡ 0
   unfolding checks

@@ -1,6 +1,5 @@
 -- Checks of a polynomial's values at a slot's mates, where its group is whole. Assumes nothing.
 --   others-number, others-differ, others-apart    the other places of the group: r of them, and their points
---   mates-fewer     no more than these are mates
 --   mates-all       where there are r, they are the mates
 --   check s p l g   == check l of the function g
 --   check-is        the sum over the mates' symbols is the check of a polynomial of r coefficients that has them
@@ -12,7 +11,7 @@ use mathlib.Core.Bool.{Bool, true, false}
 use mathlib.Core.List.{List, [], _∷_, map}
 use Prim.Native.Nat.{ℕ, _+_, _-_, _≤_, _<_}
 use native.Mathlib.Omega.{arith}
-use lib.ListN.{length, length-take}
+use lib.ListN.{length}
 use lib.Seq.{take-all}
 use Rattle.algebra.specs.Ring.{Ring, Field, pow}
 use Rattle.algebra.specs.Sequence.{In, Distinct}
@@ -68,10 +67,6 @@ module _ (s : Shape) (M : Mending s) (p : ℕ) (inside : p < s .n) where
   others-apart m i e =
       let o = other-is s P p slot-room i in
       o .other-place (locators-differ s P m p (o .below) slot-room e)
-
-  pub mates-fewer : length (mates s p) ≤ s .r
-  unfolding mates
-  mates-fewer = omega (arith, length-take (members s (group s p) - 1) (others s p), others-number)
 
   pub mates-all : length (mates s p) ≡ s .r → mates s p ≡ others s p
   unfolding mates

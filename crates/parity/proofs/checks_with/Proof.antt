@@ -1,6 +1,6 @@
 use borrow.Author.Needs.{needs}
 use mathlib.Core.Path.{sym}
-use Rattle.parity.proofs.Counts.{with-r, with-fewer, with-none}
+use Rattle.parity.proofs.Counts.{with-r, with-other, with-none}
 use Rattle.parity.proofs.checks_with.Statement.{statement}
 use Rattle.parity.proofs.checks_with.Tie as tie
 
@@ -8,7 +8,7 @@ returns : tie.Need-returns
 returns c = let a = c .before .before .args in sym (with-none (a .shape) (a .number) (c .if1 .taken))
 
 returns-2 : tie.Need-returns-2
-returns-2 c = let a = c .before .before .before .before .args in sym (with-fewer (a .shape) (a .number) (c .if2 .taken))
+returns-2 c = let a = c .before .before .before .before .args in sym (with-other (a .shape) (a .number) (c .if2 .taken))
 
 sub-result : tie.Need-sub-result
 sub-result c = search needs
