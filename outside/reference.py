@@ -5,6 +5,7 @@ inverses are searched for, codewords are values of the encoding polynomial, repa
 formula, and decoding is Gauss-Jordan elimination over all kept equations. A code whose last group
 is short has another basis (g and h), and its repair there takes the missing points as zeros. Mates
 are true where the equations of their slots have a solution: a message whose codeword has them. The
+decoder that mends near home first does the local pass on copies, and decodes the copies alone. The
 grade goes by the dimension of the code cut down to the kept slots, and never decodes. The preview
 marks the slot on a copy, counts and grades; of a whole sheet one elimination tells it of all slots.
 
@@ -415,7 +416,7 @@ def solve(code, word, marks):
 
 
 def decode_refusal(code, word, marks, message, work):
-    """1 2 3 4 17 5 8 6, as decode and record ask them."""
+    """1 2 3 4 17 5 8 6, as decode, decode_near and record ask them."""
     refusal = code_refusal(code)
     if refusal:
         return refusal
@@ -441,6 +442,17 @@ def decode(code, word, marks, message, work):
     if outcome == DECIDED:
         message[:] = solution
     return outcome
+
+
+def decode_near(code, word, marks, message, work):
+    """1 2 3 4 17 5 8 6 9 10; the value is the number of groups repaired."""
+    refusal = decode_refusal(code, word, marks, message, work)
+    if refusal:
+        return refusal, 0
+    near, left = bytearray(word), bytearray(marks)
+    _, count = local_pass(code, near, left)  # what it asks, and decode, is passed above: a repaired symbol is below q
+    outcome = decode(code, near, left, message, work)
+    return outcome, count if outcome == DECIDED else 0
 
 
 # Grading -----------------------------------------------------------------------------------------

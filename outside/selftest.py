@@ -1,6 +1,6 @@
 """Checks the reference: the paper's worked cases, brute force over small codes of thirteen by both wirings and with short
-last groups, true mates by every codeword and by parity checks, grades and previews against decoding, and which calls
-vectors.py makes.
+last groups, true mates by every codeword and by parity checks, grades, previews and decode_near against decoding, and which
+calls vectors.py makes.
 
     python3 outside/selftest.py
 """
@@ -41,6 +41,22 @@ def decoded(code, word, marks):
     assert work == bytes(used) + b"\xbb" * 3
     assert refusal == 0 or message == b"\xaa" * code.k
     return refusal, bytes(message)
+
+
+def near(code, word, marks):
+    """What decode_near answers, and its message. Tested on the way: word and marks stay, a refusal's value is 0, and all else
+    is as decode has it."""
+    used, answers = code.n * (code.k + 1), set()
+    for room in (used, used + 3):
+        copy, left = bytearray(word), bytearray(marks)
+        message, other = bytearray(b"\xaa" * code.k), bytearray(b"\xaa" * code.k)
+        work, lent = bytearray(b"\xbb" * room), bytearray(b"\xbb" * room)
+        refusal, value = ref.decode_near(code, copy, left, message, work)
+        assert refusal == ref.decode(code, word, marks, other, lent) and message == other and work == lent
+        assert copy == word and left == marks and (refusal == 0 or value == 0)
+        answers.add((refusal, value, bytes(message)))
+    assert len(answers) == 1
+    return answers.pop()
 
 
 def grade(code, lost):
@@ -718,6 +734,129 @@ def test_foreign_pass():
     assert ref.local_pass(two, word, marks) == (6, 0) and marks == marked(9, [0, 6, 7])
 
 
+def without(word, lost):
+    """The word with 255, which is no symbol of thirteen, in the lost slots."""
+    return bytes(255 if p in lost else s for p, s in enumerate(word))
+
+
+def test_near():
+    """Worked numbers: what is lost of a codeword, the refusal and the number of groups mended."""
+    one, six = Code(0, 2, 9, 1), Code(0, 3, 6, 2)  # the codewords of one are all of one symbol
+    for code, message, lost, wanted in [
+        (N, ONES, [], (0, 0)),
+        (N, ONES, [0], (0, 1)),
+        (N, ONES, [0, 4, 8], (0, 3)),
+        (N, ONES, [0, 1], (0, 0)),
+        (N, ONES, range(4), (0, 1)),
+        (N, ONES, [2, 5, 6, 7, 8], (0, 2)),  # past the guarantee
+        (N, ONES, range(4, 9), (10, 0)),
+        (N, ONES, range(2, 9), (10, 0)),  # group 0 is mended
+        (N, ONES, [0, 1, 3, 6, 7], (0, 1)),
+        (N, ONES, range(9), (10, 0)),
+        (WIRED, ONES, [0, 1], (0, 2)),
+        (WIRED, ONES, [0, 3], (0, 0)),
+        (WIRED, ONES, [2, 5, 6, 7, 8], (0, 2)),
+        (WIRED, ONES, [1, 2, 4, 5, 6, 7], (10, 0)),
+        (ELEVEN, [1, 2, 3, 4, 5], [0, 4, 10], (0, 3)),
+        (ELEVEN, [1, 2, 3, 4, 5], [8, 9, 10], (0, 1)),
+        (ELEVEN, [1, 2, 3, 4, 5], [0, 1, 2, 9], (0, 1)),
+        (ELEVEN, [1, 2, 3, 4, 5], [0, 1, 2, 3, 4, 9], (10, 0)),
+        (one, [5], [0, 4, 8], (0, 3)),
+        (one, [5], [0, 3, 4, 5, 6, 7, 8], (0, 1)),
+        (six, [1, 2], [1, 4], (0, 2)),
+        (six, [1, 2], [1, 4, 5], (0, 1)),
+        (Code(1, 4, 8, 5), [1, 2, 3, 4, 255], [5, 6], (0, 0)),
+        (Code(1, 4, 8, 5), [1, 2, 3, 4, 255], [0, 5, 6], (0, 1)),
+        (Code(1, 2, 9, 5, 1), [1, 2, 3, 4, 255], [0, 3, 7], (0, 1)),
+        (Code(1, 2, 9, 5, 1), [1, 2, 3, 4, 255], [0, 3, 6, 7], (10, 0)),
+        (Code(1, 16, 255, 240), range(240), range(0, 255, 17), (0, 15)),
+    ]:
+        word, marks = without(encoded(code, message), lost), marked(code.n, lost)
+        assert near(code, word, marks) == (*wanted, b"\xaa" * code.k if wanted[0] else bytes(message)), (code, lost)
+    for code, word, lost in [
+        (N, [4, 8, 7, 1, 11, 2, 0, 0, 1], []),
+        (N, [4, 8, 7, 1, 11, 2, 0, 0, 1], [0, 4]),  # two groups are mended
+        (N, [4, 8, 7, 1, 11, 2, 0, 2, 1], [0, 3, 4, 6]),  # groups 0 and 2 are mended
+        (one, [5, 5, 7, 5, 5, 5, 5, 5, 5], [0]),  # group 0 is left
+        (one, [5, 5, 7, 4, 4, 4, 6, 6, 6], [0, 4, 6, 7]),  # group 0 is left, and group 1 is mended
+        (one, [5, 5, 7, 5, 5, 5, 5, 5, 5], [0, 3, 4, 5, 6, 7, 8]),
+        (six, [1, 1, 8, 12, 1, 8], [0, 4]),
+    ]:
+        assert near(code, without(word, lost), marked(code.n, lost)) == (9, 0, b"\xaa" * code.k), (code, word, lost)
+
+
+def agreeing(code, words, word, marks):
+    """The messages whose codewords have the kept symbols, by a search of all."""
+    kept = [p for p in range(code.n) if not marks[p]]
+    return [m for m, w in words if all(w[p] == word[p] for p in kept)]
+
+
+def test_near_agrees():
+    """Against every codeword: before and after the local pass the same agree, also where it leaves a group. On 0 the value is
+    the number of groups with one loss. A left group is 9."""
+    rng, seen = random.Random(25), Counter()
+    for code in itertools.chain(small_codes(3), short_codes(3)):
+        words = [(m, encoded(code, m)) for m in all_messages(code)]
+        for _ in range(40 if code.k < 3 else 10):
+            word, marks = vectors.pick_near(rng, code)
+            after, left = bytearray(word), bytearray(marks)
+            assert ref.local_pass(code, after, left)[0] == 0
+            fitting = agreeing(code, words, word, marks)
+            assert fitting == agreeing(code, words, after, left), (code, word, marks)
+            singles = [g for g in range(ref.groups(code)) if len(ref.losses(code, marks, g)) == 1]
+            behind = [g for g in singles if len(ref.losses(code, left, g)) == 1]
+            if len(fitting) == 1:
+                assert near(code, word, marks) == (0, len(singles), fitting[0])
+            else:
+                assert near(code, word, marks) == (10 if fitting else 9, 0, b"\xaa" * code.k)
+            assert not (behind and fitting)
+            kind = "wired" if code.wiring else "short" if ref.short(code) else "whole"
+            seen[kind, min(len(fitting), 2), len(singles) > len(behind), behind != []] += 1
+    for kind, count, mended in itertools.product(("whole", "wired", "short"), range(3), (True, False)):
+        assert seen[kind, count, mended, False] > 4, (kind, count, mended)
+        assert count or seen[kind, count, mended, True] > 10, (kind, mended)
+
+
+def test_near_is_decode():
+    """Over codes of any k and bytes: all but the value is decode's, and the lost bytes do not matter."""
+    rng, seen = random.Random(26), Counter()
+    codes = [code for code in itertools.chain(small_codes(11), short_codes(10)) for _ in range(4)]
+    codes += [vectors.pick_code(rng, 1) for _ in range(400)] + [Code(1, 16, 255, 230, 1), Code(1, 16, 250, 12)]
+    for code in codes:
+        word, marks = vectors.pick_near(rng, code)
+        answer = near(code, word, marks)
+        singles = [g for g in range(ref.groups(code)) if len(ref.losses(code, marks, g)) == 1]
+        assert answer[1] == (0 if answer[0] else len(singles)), (code, word, marks)
+        assert answer == near(code, bytes(rng.randrange(256) if m else s for s, m in zip(word, marks)), marks)
+        seen[code.field, answer[0], min(len(singles), 2)] += 1
+    assert all(seen[f, a, count] > 4 for f, a, count in itertools.product((0, 1), (0, 9, 10), range(3))), seen
+
+
+def test_near_order():
+    """1 2 3 4 17 5 8 6, 6 of every kept symbol; a refusal leaves every buffer."""
+    good, bad, word = marked(9, [0, 4]), bytes([0] * 8 + [2]), without(ONES_WORD, [0, 4])
+
+    def refused(code, word, marks, room, places=4):
+        buffers = [bytearray(data) for data in (word, marks, b"\xaa" * places, b"\xbb" * room)]
+        refusal, value = ref.decode_near(code, *buffers)
+        assert buffers == [word, marks, b"\xaa" * places, b"\xbb" * room] and value == 0
+        return refusal
+
+    wrong = [(N._replace(field=2), 1), (N._replace(r=4), 2), (N._replace(n=10), 3), (N._replace(k=7), 4)]
+    for code, number in [*wrong, (N._replace(wiring=2), 17), (N._replace(k=7, wiring=2), 4), (ELEVEN._replace(wiring=1), 17)]:
+        for symbols, marks, room in itertools.product((word, word[1:], b"\x0d" * 9), (good, bad, good[1:]), (0, 44, 45)):
+            assert refused(code, symbols, marks, room) == number
+    for symbols, marks in itertools.product((word, b"\x0d" * 9), (good, bad)):
+        assert refused(N, symbols, marks, 44) == refused(N, symbols, marks, 0) == 5
+        assert refused(N, symbols[1:], marks, 45) == refused(N, symbols, marks[1:], 45) == 5
+        assert all(refused(N, symbols, marks, 45, places) == 5 for places in (0, 3, 5))
+        assert refused(N, symbols, bad, 45) == 8
+    for slot, lost in [(1, [0]), (8, [0]), (8, [0, 6, 7]), (8, []), (8, range(8))]:
+        symbols = bytearray(without(ONES_WORD, lost))
+        symbols[slot] = 13
+        assert refused(N, symbols, marked(9, lost), 45) == 6  # of mended groups, and of those with other losses
+
+
 def test_strips():
     rng = random.Random(4)
     stripes = [(code, slot) for code in (Code(1, 4, 10, 7), Code(1, 4, 10, 7, 1)) for slot in range(10)]
@@ -845,6 +984,40 @@ def test_foreign_vectors():
                 seen["6 beside"] += columns > 1 and all(s < 13 for s in changed[found[0] :: columns])
             assert draft.finished()[1] == number, (name, number, code)
     assert seen["6 beside"] > 10
+
+
+def test_near_vectors():
+    """vectors.py makes decode_near answer 0 with no group mended, one and many, also beside groups with more losses; 9 with
+    groups mended, left and both, also where 10 would follow; 10 with some mended; in every kind of code, with any bytes in lost
+    slots. 6 comes of mended groups and of others."""
+    rng, seen = random.Random(27), Counter()
+    for index in range(4000):
+        data, refusal, kind = vectors.make_call(rng, "decode_near", index)
+        code, (_, count, length, given) = Code(*struct.unpack_from(">5I", data, 8)), struct.unpack_from(">4I", data, 28)
+        assert count == 4 and (kind is None) == (refusal not in (0, 9, 10))
+        seen[refusal] += 1
+        if kind is None and refusal != 6:
+            continue
+        word, marks = data[44 : 44 + given], data[52 + given : 52 + 2 * given]
+        assert length == given == len(marks) == code.n and set(marks) <= {0, 1}
+        crowds = [len(ref.losses(code, marks, g)) for g in range(ref.groups(code))]
+        if refusal == 6:
+            wrong = [p for p in range(code.n) if not marks[p] and word[p] > 12]
+            seen["6", {min(crowds[ref.group(code, p)], 2) for p in wrong} == {1}] += 1
+            continue
+        shape = "wired" if code.wiring else "short" if ref.short(code) else "whole"
+        assert kind in vectors.NEARS.values() and kind[0] == refusal
+        seen[kind, shape, code.field] += 1
+        seen["no symbol", refusal] += code.field == 0 and any(m and s > 12 for m, s in zip(marks, word))
+        seen["crowded", kind] += max(crowds) > 1
+        seen["9 before 10"] += refusal == 9 and ref.undecided(code, marks)
+        if refusal == 0:
+            assert kind == (0, min(crowds.count(1), 2), False)
+    assert {number for number in seen if isinstance(number, int)} == vectors.ANSWERS["decode_near"]
+    for kind, shape, field in itertools.product(vectors.NEARS.values(), ("whole", "wired", "short"), (0, 1)):
+        assert seen[kind, shape, field], (kind, shape, field)
+    assert all(seen["no symbol", refusal] > 50 for refusal in (0, 9, 10)) and min(seen["6", True], seen["6", False]) > 20
+    assert seen["crowded", (0, 1, False)] > 50 and seen["crowded", (0, 2, False)] > 50 and seen["9 before 10"] > 20
 
 
 def test_short_mates():

@@ -7,13 +7,15 @@ both wirings, short last groups and the corner codes. Besides come good rebuilds
 every length where the strip kernel takes another way, and in short last groups with every number of mates; and where k is
 below r rebuilds with one column that no codeword has, at every length and at every place; unless "lengths" is among the
 names. A table of how often each answer came, and each grade, goes to standard error; of previews each grade before and
-after; of local passes how many mended groups, left groups, and did both.
+after; of local passes how many mended groups, left groups, and did both; of decode_near the same under each answer, and under
+0 whether none, one or many were mended.
 
 Format: a row of records and then the number 0. Every number is 32 bits, high byte first.
 
     size        bytes of this record after this number; at least 40
     call        1 encode, 2 weights, 3 repair, 4 rebuild, 5 view, 6 local_pass, 7 decode, 8 grade,
-                9 record, 10 read_sheet, 11 write_sheet, 12 report, 13 preview, 14 preview_sheet
+                9 record, 10 read_sheet, 11 write_sheet, 12 report, 13 preview, 14 preview_sheet,
+                15 decode_near
     field r n k wiring slot    the call's numbers; 0 where it takes none
     buffers     how many buffers follow: those of the C function, in its order
       length given bytes   for each: before the call it has this length, and its byte i is the
@@ -51,6 +53,7 @@ BUFFERS = {
     "report": ("input", "text"),
     "preview": ("marks", "work", "preview"),
     "preview_sheet": ("input", "text"),
+    "decode_near": ("word", "marks", "message", "work"),
 }
 CALLS = list(BUFFERS)
 WIDE = ("record", "code", "preview")  # buffers of 32-bit numbers
@@ -71,16 +74,17 @@ QUESTIONS = {
     "report": (1, 2, 3, 4, 17, 5, 6, 11, 12, 13, 14, 15),
     "preview": (1, 2, 3, 4, 17, 5, 7, 8),
     "preview_sheet": (1, 2, 3, 4, 17, 5, 6, 11, 12, 13, 14, 15),
+    "decode_near": (1, 2, 3, 4, 17, 5, 6, 8),
 }
 
 # Every number that each call can answer; the record's outcome and the texts count too.
 ANSWERS = {name: {0, *numbers} for name, numbers in QUESTIONS.items()}
-SOLVERS = ("decode", "record", "report")
+SOLVERS = ("decode", "record", "report", "decode_near")
 GRADERS = ("grade", "preview", "preview_sheet", *SOLVERS)
 WRITERS = {"report": ref.REPORT_TEXT, "preview_sheet": ref.PREVIEW_TEXT}  # of a text, and its buffer's least length
 READERS = ("read_sheet", *WRITERS)
 SLOTTED = ("weights", "repair", "rebuild", "view", "preview")
-MENDERS = ("repair", "rebuild", "local_pass")
+MENDERS = ("repair", "rebuild", "local_pass", "decode_near")
 for solver in SOLVERS:
     ANSWERS[solver] |= {9, 10}
 
@@ -135,12 +139,17 @@ WIRED = 0.45  # the share of codes that have wiring 1
 SHORT = 0.35  # the share of the others whose last group is short
 ROOMY = 0.6  # of the codes that are graded, the share that is to have losses of grade 3
 TOLD = 0.6  # of the codes that groups are mended by, the share that is to have mates of no codeword
+SOLVED = 0.1  # of the words that are decoded, the share that is noise
 LARGEST = 2**32 - 1
 LONGEST = 65600  # bytes of a buffer
 TAILS = (1, 3, 4, 5)  # bytes after the longest sheet; the report and the preview read the first four
 STEPS = [(0, 1)] + [(a, b) for a in range(1, 5) for b in range(a, 5)]  # the grades before a preview's slot is lost and after
-TITLES = {"grade": "grades", "preview": "previews", "local_pass": "passes"}  # of the rows that count values
+TITLES = {"grade": "grades", "preview": "previews", "local_pass": "passes", "decode_near": "nears"}  # of rows that count values
 PASSES = {"neither": (False, False), "mended": (True, False), "left": (False, True), "both": (True, True)}  # groups of one loss
+# The answer, how many groups are mended (2 is more than one, 1 is any under 9 and 10), and whether some are left: 9 then.
+NEARS = {"0-none": (0, 0, False), "0-one": (0, 1, False), "0-many": (0, 2, False)}
+NEARS |= {f"9-{label}": (9, int(mended), left) for label, (mended, left) in PASSES.items()}
+NEARS |= {"10-none": (10, 0, False), "10-mended": (10, 1, False)}
 
 
 # Buffers and records -----------------------------------------------------------------------------
@@ -204,12 +213,18 @@ def shown(name, refusal, args):
 
 
 def told(name, refusal, value, code, args):
-    """The value that a call is counted by: of a preview the grade before the slot's loss and after, of a local pass whether it
-    mended groups and whether it left some that have one loss."""
-    if refusal == 0 and name == "preview":
+    """The value that a call is counted by, None where it is not: of a preview the grade before the slot's loss and after, of a
+    local pass whether it mended groups and whether it left some that have one loss, of decode_near one of NEARS."""
+    if name == "decode_near" and refusal in (0, 9, 10):
+        word, marks = bytearray(args[0]), bytearray(args[1])
+        _, mended = ref.local_pass(code, word, marks)
+        return refusal, min(mended, 1 if refusal else 2), single_groups(code, marks) != []
+    if refusal:
+        return None
+    if name == "preview":
         return ref.graded(code, args[0]), args[2][1]
-    if refusal == 0 and name == "local_pass":
-        return value > 0, any(len(ref.losses(code, args[1], g)) == 1 for g in range(ref.groups(code)))
+    if name == "local_pass":
+        return value > 0, single_groups(code, args[1]) != []
     return value
 
 
@@ -357,9 +372,9 @@ def edge_losses(rng, code):
     return [p for p in range(code.n) if p not in kept]
 
 
-def pick_stripe(rng, code, noise):
+def pick_stripe(rng, code, noise, pick=pick_marks):
     """A word and its marks: a codeword, one with changes, or noise; any bytes under lost marks."""
-    marks = pick_marks(rng, code)
+    marks = pick(rng, code)
     shape = "noise" if rng.random() < noise else rng.choice(["codeword", "codeword", "changed"])
     word = bytearray(symbols(rng, code, code.n)) if shape == "noise" else codeword(rng, code)
     if shape == "changed":
@@ -439,9 +454,8 @@ def pick_place(rng, columns):
     return rng.choice([0, columns - 1, columns // 2, rng.randrange(columns)])
 
 
-def pick_groups(rng, code):
-    """A word and its marks for the local pass: each group by itself is of a codeword, of another one, of one with a change or
-    with a further polynomial, or noise, and mostly one slot of it is lost; any bytes under lost marks."""
+def pick_singles(rng, code):
+    """Losses: mostly one slot of each group."""
     marks = pick_marks(rng, code)
     if rng.random() < 0.7:
         for g in range(ref.groups(code)):
@@ -449,6 +463,13 @@ def pick_groups(rng, code):
             lost = rng.sample(slots, rng.choice([0, 1, 1, 1, 1, 2]))
             for p in slots:
                 marks[p] = p in lost
+    return marks
+
+
+def pick_groups(rng, code):
+    """A word and its marks for the local pass: each group by itself is of a codeword, of another one, of one with a change or
+    with a further polynomial, or noise, and mostly one slot of it is lost; any bytes under lost marks."""
+    marks = pick_singles(rng, code)
     word = bytearray(code.n)
     first, second = codeword_strips(rng, code, range(code.n), 1), codeword_strips(rng, code, range(code.n), 1)
     shapes = ["codeword", "codeword", "other", "changed", "noise"] + ["further"] * tells(code)
@@ -465,6 +486,23 @@ def pick_groups(rng, code):
         if marks[p]:
             word[p] = rng.randrange(256)
     return word, marks
+
+
+def pick_crowds(rng, code):
+    """Losses: no slot of a group, one, more or all."""
+    marks = bytearray(code.n)
+    for g in range(ref.groups(code)):
+        slots = ref.members(code, g)
+        for p in rng.sample(slots, rng.choice([0, 1, 1, rng.randint(1, len(slots)), len(slots)])):
+            marks[p] = 1
+    return marks
+
+
+def pick_near(rng, code):
+    """A word and its marks for decode_near: as for the local pass, as for decode, or such a word with losses group by group."""
+    if rng.random() < (0.6 if tells(code) else 0.2):
+        return pick_groups(rng, code)
+    return pick_stripe(rng, code, SOLVED, rng.choice([pick_marks, pick_singles, pick_crowds]))
 
 
 def kept_again(rng, code, word, marks):
@@ -501,8 +539,10 @@ class Draft:
         if slot is None and name in SLOTTED:
             self.slot = pick_slot(rng, code)
         self.word, self.marks = (bytearray(), bytearray())
-        if "word" in BUFFERS[name] or "marks" in BUFFERS[name] or name in WRITERS:
-            self.word, self.marks = pick_stripe(rng, code, 0.1 if name in SOLVERS else 0.9)
+        if name == "decode_near":
+            self.word, self.marks = pick_near(rng, code)
+        elif "word" in BUFFERS[name] or "marks" in BUFFERS[name] or name in WRITERS:
+            self.word, self.marks = pick_stripe(rng, code, SOLVED if name in SOLVERS else 0.9)
         if name == "local_pass":
             self.word, self.marks = pick_groups(rng, code)
         if name == "preview":
@@ -823,7 +863,7 @@ def make_call(rng, name, index):
         aimed = aims(rng, name, late)
         short = True if 17 in aimed and name in READERS else False if 18 in aimed else None
         roomy = name in GRADERS and rng.random() < ROOMY
-        told = 9 in aimed or name in MENDERS and rng.random() < TOLD
+        told = 9 in aimed or name in MENDERS and not roomy and rng.random() < TOLD  # few codes are both
         if told and rng.random() < SHORT:
             short = True  # else such codes are rare
         codes = picks(rng, 0 if 6 in aimed else None, short)
@@ -913,7 +953,7 @@ def main():
             data, number, value = make_call(rng, name, index)
             out.write(data)
             seen[name, number] += 1
-            if name in TITLES and number == 0:
+            if name in TITLES and value is not None:
                 seen[TITLES[name], value] += 1
     for data, number, _ in rebuilds(rng) if "lengths" not in left_out else ():
         out.write(data)
@@ -927,7 +967,7 @@ def main():
         assert not stray, (name, stray)
         assert count < 600 or all(seen[name, a] for a in ANSWERS[name]), name
     grades, steps = {str(v): v for v in range(5)}, {f"{a}-{b}": (a, b) for a, b in STEPS}
-    for name, values in (("grade", grades), ("preview", steps), ("local_pass", PASSES)):
+    for name, values in (("grade", grades), ("preview", steps), ("local_pass", PASSES), ("decode_near", NEARS)):
         if name in names:
             row = [f"{label}:{seen[TITLES[name], v]}" for label, v in values.items()]
             print(f"{TITLES[name]:13}", *row, file=sys.stderr)
