@@ -98,8 +98,8 @@ fn symbol_at(word: &[u8], marks: &[u8], p: usize) -> u8
 }
 
 // The symbols of the word, 0 where one is lost. A lost symbol is not read.
-pub fn load(word: &[u8], marks: &[u8], n: usize, rests: &mut [u8; 256])
-    requires { ⌜ (length (now rests) ≡ 256) × (n ≤ 255) × (length (now word) ≡ n) × (length (now marks) ≡ n) ⌝ }
+pub fn load(word: &[u8], marks: &[u8], n: usize, rests: &mut [u8])
+    requires { ⌜ (n ≤ length (now rests)) × (length (now word) ≡ n) × (length (now marks) ≡ n) ⌝ }
     ensures { λ _. ⌜ Written (λ p. masked (at (now (word .entry)) p) (at (now (marks .entry)) p)) 0 n (now (rests .entry)) (now (rests .exit)) ⌝ }
 {
     let mut p: usize = 0;

@@ -1,2 +1,1 @@
-pub mod Mending
-pub mod Copying
+pub mod Trying

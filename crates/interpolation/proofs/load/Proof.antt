@@ -1,4 +1,5 @@
 use Prim.Native.Nat.{_-_}
+use borrow.Author.Needs.{needs}
 use native.Mathlib.Omega.{arith}
 use Rattle.algebra.specs.Sequence.{at}
 use Rattle.algebra.proofs.Writing.{Writing, writing-none, writing-more, writing-done}
@@ -18,8 +19,8 @@ loop-holds c = writing-none (omega arith)
 symbol-at-requires : tie.Need-symbol-at-requires Inv-loop μ-loop
 symbol-at-requires c κs = (omega arith, λ _. omega arith)
 
-element-write-rests : tie.Need-element-write-rests Inv-loop μ-loop
-element-write-rests c = omega arith
+slice-write-rests : tie.Need-slice-write-rests Inv-loop μ-loop
+slice-write-rests c = omega arith
 
 add-p : tie.Need-add-p Inv-loop μ-loop
 add-p c = omega arith
@@ -29,8 +30,11 @@ loop-less c = omega arith
 
 loop-again : tie.Need-loop-again Inv-loop μ-loop
 loop-again c =
-    let s = c .before .before .before .before .before in
+    let s = c .before .before .before .before .before .before in
     writing-more (c .before .loop-test .taken) (omega (arith, s .pre .0)) (c .symbol-at .ensures) (c .before .before .loop .inv)
+
+same-length : tie.Need-same-length Inv-loop μ-loop
+same-length c = search needs
 
 returns : tie.Need-returns Inv-loop μ-loop
 returns c = writing-done (c .loop-test .left) (c .before .loop .inv)
@@ -43,8 +47,9 @@ load-spec =
     μ-loop
     loop-holds
     symbol-at-requires
-    element-write-rests
+    slice-write-rests
     add-p
     loop-less
     loop-again
+    same-length
     returns)

@@ -39,17 +39,20 @@ sub-number c =
 add-number : tie.Need-add-number
 add-number c = search needs
 
+slice-aggregate-load : tie.Need-slice-aggregate-load
+slice-aggregate-load c = search needs
+
 load-requires : tie.Need-load-requires
 load-requires c κs =
     let s = c .before .before .before .before .before .before .before in
-    (search needs, omega (arith, n-most (s .args .shape) (s .pre .0 .plain .family .placed)), s .pre .2 .word, s .pre .2 .marks)
+    (omega (arith, n-most (s .args .shape) (s .pre .0 .plain .family .placed), length-replicate {A = ℕ} 256 0), s .pre .2 .word, s .pre .2 .marks)
 
 slice-aggregate-copy : tie.Need-slice-aggregate-copy
 slice-aggregate-copy c = search needs
 
 copy-requires : tie.Need-copy-requires
 copy-requires c κs =
-    let s = c .before .before .before .before .before .before .before .before .before in
+    let s = c .before .before .before .before .before .before .before .before .before .before in
     (omega (arith, s .pre .2 .marks), omega (arith, n-most (s .args .shape) (s .pre .0 .plain .family .placed), length-replicate {A = ℕ} 256 0))
 
 array-share-prefix-symbols : tie.Need-array-share-prefix-symbols
@@ -57,33 +60,33 @@ array-share-prefix-symbols c = search needs
 
 slice-aggregate-solve-long : tie.Need-slice-aggregate-solve-long
 slice-aggregate-solve-long c =
-    sym (length-take-le (c .before .before .before .before .before .before .room-of .result) (c .before .before .before .before .load .last .1 .1 .1 .0) (omega (arith, c .before .before .before .before .before .before .room-of .ensures .1, c .before .before .before .before .load .ensures .size, length-replicate {A = ℕ} 256 0)))
+    sym (length-take-le (c .before .before .before .before .before .before .before .room-of .result) (c .before .before .before .before .before .load .last .1 .1 .1 .0) (omega (arith, c .before .before .before .before .before .before .before .room-of .ensures .1, c .before .before .before .before .before .load .ensures .size, length-replicate {A = ℕ} 256 0)))
 
 array-share-prefix-left : tie.Need-array-share-prefix-left
 array-share-prefix-left c = search needs
 
 slice-aggregate-solve-long-2 : tie.Need-slice-aggregate-solve-long-2
 slice-aggregate-solve-long-2 c =
-    sym (length-take-le (c .before .before .before .before .before .before .before .room-of .result) (c .before .before .before .copy .last .1 .1 .1 .0) (omega (arith, c .before .before .before .before .before .before .before .room-of .ensures .1, c .before .before .before .copy .ensures .written .size, length-replicate {A = ℕ} 256 0)))
+    sym (length-take-le (c .before .before .before .before .before .before .before .before .room-of .result) (c .before .before .before .copy .last .1 .1 .1 .0) (omega (arith, c .before .before .before .before .before .before .before .before .room-of .ensures .1, c .before .before .before .copy .ensures .written .size, length-replicate {A = ℕ} 256 0)))
 
 array-borrow-prefix-room : tie.Need-array-borrow-prefix-room
 array-borrow-prefix-room c =
-    let s = c .before .before .before .before .before .before .before .before .before .before .before .before .before in
-    omega (arith, number-is (s .args .shape) (s .pre .0) (c .before .before .before .before .before .before .before .room-of .result) (c .before .before .before .before .before .before .before .room-of .ensures .0), length-replicate {A = ℕ} 256 0)
+    let s = c .before .before .before .before .before .before .before .before .before .before .before .before .before .before in
+    omega (arith, number-is (s .args .shape) (s .pre .0) (c .before .before .before .before .before .before .before .before .room-of .result) (c .before .before .before .before .before .before .before .before .room-of .ensures .0), length-replicate {A = ℕ} 256 0)
 
 slice-aggregate-solve-long-3 : tie.Need-slice-aggregate-solve-long-3
 slice-aggregate-solve-long-3 c =
-    let s = c .before .before .before .before .before .before .before .before .before .before .before .before .before .before in
-    sym (length-take-le _ (replicate 256 0) (omega (arith, number-is (s .args .shape) (s .pre .0) (c .before .before .before .before .before .before .before .before .room-of .result) (c .before .before .before .before .before .before .before .before .room-of .ensures .0), length-replicate {A = ℕ} 256 0)))
+    let s = c .before .before .before .before .before .before .before .before .before .before .before .before .before .before .before in
+    sym (length-take-le _ (replicate 256 0) (omega (arith, number-is (s .args .shape) (s .pre .0) (c .before .before .before .before .before .before .before .before .before .room-of .result) (c .before .before .before .before .before .before .before .before .before .room-of .ensures .0), length-replicate {A = ℕ} 256 0)))
 
 solve-long-requires : tie.Need-solve-long-requires
 solve-long-requires c κs =
-    let s = c .before .before .before .before .before .before .before .before .before .before .before .before .before .before .before in
+    let s = c .before .before .before .before .before .before .before .before .before .before .before .before .before .before .before .before in
     let a = s .args in
     let D = s .pre .0 in
     let P = D .plain .family .placed in
-    let l = c .before .before .before .before .before .before .before .before .before .room-of in
-    let v = c .before .before .before .before .before .before .before .load in
+    let l = c .before .before .before .before .before .before .before .before .before .before .room-of in
+    let v = c .before .before .before .before .before .before .before .before .load in
     let k = c .before .before .before .before .before .copy in
     let n = number-is (a .shape) D (l .result) (l .ensures .0) in
     let W = padded (a .shape .n) (l .result) (a .word .now) (a .marks .now) (v .last .1 .1 .1 .0) (k .last .1 .1 .1 .0)
@@ -107,12 +110,12 @@ same-length c = search needs
 
 returns : tie.Need-returns
 returns c =
-    let s = c .before .before .before .before .before .before .before .before .before .before .before .before .before .before .before .before .before .before .before in
+    let s = c .before .before .before .before .before .before .before .before .before .before .before .before .before .before .before .before .before .before .before .before in
     let a = s .args in
     let D = s .pre .0 in
     let P = D .plain .family .placed in
-    let l = c .before .before .before .before .before .before .before .before .before .before .before .before .before .room-of in
-    let v = c .before .before .before .before .before .before .before .before .before .before .before .load in
+    let l = c .before .before .before .before .before .before .before .before .before .before .before .before .before .before .room-of in
+    let v = c .before .before .before .before .before .before .before .before .before .before .before .before .load in
     let k = c .before .before .before .before .before .before .before .before .before .copy in
     let W = padded (a .shape .n) (l .result) (a .word .now) (a .marks .now) (v .last .1 .1 .1 .0) (k .last .1 .1 .1 .0)
     (omega (arith, l .ensures .0, n-room (a .shape) P)) (omega (arith, l .ensures .1)) (v .ensures) (k .ensures) in
@@ -129,6 +132,7 @@ solve-short-spec =
     cast-places
     sub-number
     add-number
+    slice-aggregate-load
     load-requires
     slice-aggregate-copy
     copy-requires

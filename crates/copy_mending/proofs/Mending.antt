@@ -1,12 +1,10 @@
--- Local repair, then another way: what it finds is found of the word before. Assumes nothing.
---   received-after           the kept symbols are below q after the pass too
---   verdict-after            a verdict on the word and the marks after the pass is one on those before it
---   tried, untried           a verdict is tried, and so is 11 with the message unchanged
+-- What the local pass leaves. Assumes nothing.
+--   mended-copy       the pass on a copy leaves what just the same messages fit
+--   copied-verdict    a verdict on that is one on the word
 use mathlib.Core.Path.{_≡_, refl, sym, ap, _∙_}
 use mathlib.Core.Bool.{Bool, true, false, cond, _||_}
 use mathlib.Core.List.{List}
 use Prim.Native.Nat.{ℕ, _<_}
-use native.Mathlib.Omega.{arith}
 use lib.Dec.{T, eqb, ltb, lt→ltb}
 use lib.ListN.{length}
 use Rattle.algebra.specs.Sequence.{at}
@@ -21,14 +19,15 @@ use Rattle.code.specs.Decoding.{lost}
 use Rattle.code.specs.Erasure.{kept-below}
 use Rattle.code.specs.Laws.{Family}
 use Rattle.code.specs.Repair.{weights-over, restored, symbols-of}
-use Rattle.code.specs.Pass.{sources, mends, mend, passed, marks-after}
+use Rattle.code.specs.Pass.{sources, mends, mend, passed, marks-after, mended}
 use Rattle.code.specs.Promise.{Before-and-after}
-use Rattle.code.specs.Verdict.{Verdict, one, none, more}
-use Rattle.code.proofs.Keeping.{before-and-after}
+use Rattle.code.specs.Verdict.{Verdict}
 use Rattle.code.proofs.Verdicts.{verdict-same}
+use Rattle.code.proofs.Keeping.{before-and-after}
 use Rattle.code.proofs.Passing.{passed-at, mark-at, at-passed, at-marks}
 use Rattle.code.specs.Step.{Received}
-use Rattle.solving.specs.Step.{Tried}
+use Rattle.copy_mending.specs.Step.{Mended-copy}
+use Rattle.copy_mending.proofs.Copying.{Kept-same, fits-loaded, received-loaded, mended-loaded}
 
 module _ (s : Shape) (ws ms : List ℕ) where
   mend-below : (p : ℕ) → mend s ws ms p < q (s .field)
@@ -51,30 +50,22 @@ module _ (s : Shape) (ws ms : List ℕ) where
           let m = at-marks s ws ms p h ∙ ap (λ b. cond b 0 (at ms p)) t in
           rw (w, m) (every-at (λ p. lost ms p || ltb (at ws p) (q (s .field))) (s .n) (so k) p h)
 
-  -- what the pass leaves
-  module _ (vs ns : List ℕ) (v : vs ≡ passed s ws ms) (n : ns ≡ marks-after s ws ms) where
-    pub received-after : Received s ws ms → Received s vs ns
-    unfolding passed marks-after
-    received-after R =
-        record {
-          word = ap (λ l. length l) v ∙ length-tabulate (passed-at s ws ms) (s .n);
-          marks = ap (λ l. length l) n ∙ length-tabulate (mark-at s ws ms) (s .n);
-          kept = rw (v, n) (kept-after (R .kept));
-        }
+  received-after : Received s ws ms → Received s (passed s ws ms) (marks-after s ws ms)
+  unfolding passed marks-after
+  received-after R =
+      record { word = length-tabulate (passed-at s ws ms) (s .n); marks = length-tabulate (mark-at s ws ms) (s .n); kept = kept-after (R .kept) }
 
-    pub verdict-after : Family s → length ws ≡ s .n → (a b : List ℕ) (y : ℕ) → Verdict s vs ns a b y → Verdict s ws ms a b y
-    unfolding Before-and-after
-    verdict-after F l a b y d =
-        verdict-same s ws ms (passed s ws ms) (marks-after s ws ms) a b y
-        (λ ys f. sym (before-and-after s ws ms ys F l) ∙ f) (λ ys f. before-and-after s ws ms ys F l ∙ f) (rw (v, n) at d)
+-- ws and ms are the word and its marks, us the copy before the pass, vs and ns the copies after it
+pub mended-copy : (s : Shape) (ws ms us vs ns : List ℕ) (x : ℕ) → Family s → Received s ws ms → Kept-same (s .n) ws us ms → length us ≡ s .n
+    → vs ≡ passed s us ms → ns ≡ marks-after s us ms → x ≡ mended s us ms → Mended-copy s ws ms vs ns x
+unfolding Before-and-after
+mended-copy s ws ms us vs ns x F R e l v n y =
+    record {
+      received = rw (v, n) (received-after s us ms (received-loaded s ws us ms e l R));
+      same = λ xs. rw (v, n) (fits-loaded s ws us ms e xs ∙ before-and-after s us ms xs F l);
+      number = y ∙ mended-loaded s ws us ms e (F .placed) (R .word) l;
+    }
 
-pub tried : (s : Shape) (ws ms a z : List ℕ) (x : ℕ) → Verdict s ws ms a z x → Tried s ws ms a z x
-tried s ws ms a z x v = (λ _. v, λ d. go x v d)
-  where
-    go : (x : ℕ) → Verdict s ws ms a z x → x ≡ 11 → z ≡ a
-    go x (one f u) d = absurd (omega arith)
-    go x (none n p) d = p
-    go x (more ys zs f g n p) d = p
-
-pub untried : (s : Shape) (ws ms a : List ℕ) → Tried s ws ms a a 11
-untried s ws ms a = (λ n. absurd (n refl), λ d. refl)
+pub copied-verdict : (s : Shape) (ws ms vs ns : List ℕ) (x : ℕ) → Mended-copy s ws ms vs ns x → (a z : List ℕ) (y : ℕ) → Verdict s vs ns a z y
+    → Verdict s ws ms a z y
+copied-verdict s ws ms vs ns x M a z y = verdict-same s ws ms vs ns a z y (λ xs f. sym (M .same xs) ∙ f) (λ xs f. M .same xs ∙ f)

@@ -1,0 +1,3 @@
+pub mod Copying
+pub mod Mending
+pub mod Rows
