@@ -1,15 +1,16 @@
 -- All statements of specs/Promise.antt are proved. Assumes nothing.
---   promises    each of them
+--   repaired-counts    a group that is repaired counts
+--   promises           each of them
 use mathlib.Core.Path.{_≡_, refl, sym, ap, _∙_}
 use mathlib.Core.Bool.{Bool, true, false, cond, not, _&&_, _||_}
 use mathlib.Core.List.{List}
 use Prim.Native.Nat.{ℕ, _<_}
 use native.Mathlib.Omega.{arith}
-use lib.Dec.{T, eqb, ltb, lt→ltb}
+use lib.Dec.{T, eqb, eqb→eq, ltb, lt→ltb}
 use lib.ListN.{length}
 use borrow.Author.Tests.{eq-eqb}
 use Rattle.algebra.specs.Sequence.{at, every}
-use Rattle.algebra.proofs.Booleans.{yes-true, and-no-right}
+use Rattle.algebra.proofs.Booleans.{so, yes-true, and-no-right}
 use Rattle.algebra.proofs.Every.{every-intro}
 use Rattle.algebra.proofs.Counting.{count-same}
 use Rattle.algebra.proofs.Below.{all-below-at}
@@ -18,27 +19,27 @@ use Rattle.code.specs.Answer.{Answers}
 use Rattle.code.specs.declared.Shape.{Shape}
 use Rattle.code.specs.Shape.{groups, group}
 use Rattle.code.specs.Codeword.{encoded}
-use Rattle.code.specs.Decoding.{lost}
+use Rattle.code.specs.Decoding.{lost, agrees, fits}
 use Rattle.code.specs.Erasure.{group-losses}
 use Rattle.code.specs.Repair.{symbols-of}
 use Rattle.code.specs.Held.{held}
 use Rattle.code.specs.Pass.{kept-places, repairs, mends, mend, passed, marks-after, mended}
 use Rattle.code.specs.Laws.{Mending}
-use Rattle.code.specs.Promise.{Pass-mends}
+use Rattle.code.specs.Promise.{Pass-mends, Before-and-after}
 use Rattle.code.proofs.Places.{n-room}
 use Rattle.code.proofs.Questions.{ask-yes, or-ask-on}
 use Rattle.code.proofs.Answers.{answers-in}
 use Rattle.code.proofs.Codewords.{length-encoded, encoded-below}
+use Rattle.code.proofs.Keeping.{before-and-after}
 use Rattle.code.proofs.Passing.{at-passed, at-marks, pass-mends}
 use Rattle.code.proofs.Lone.{mendable-one, kept-lone, same-others}
 use Rattle.code.proofs.Held.{held-others}
 use Rattle.pass.specs.Pass.{reads, reads-below, pass-refusal}
-use Rattle.pass.specs.Promise.{counted, Pass-counts, Pass-restores, Pass-leaves, Pass-keeps, Pass-accepts, Promises}
+use Rattle.pass.specs.Promise.{counted, Pass-counts, Pass-restores, Pass-leaves, Pass-keeps, Pass-agrees, Pass-accepts, Promises}
 use Rattle.pass.proofs.Reading.{readable}
 use Rattle.pass.proofs.Refusals.{pass-passed}
 
--- a group that is repaired counts
-repaired-counts : (s : Shape) → Mending s → (ws ms : List ℕ) (j : ℕ) → repairs s ws ms j ≡ counted s ws ms j
+pub repaired-counts : (s : Shape) → Mending s → (ws ms : List ℕ) (j : ℕ) → repairs s ws ms j ≡ counted s ws ms j
 unfolding repairs counted
 repaired-counts s M ws ms j = ap (λ b. b && held s (kept-places s ms j) (symbols-of ws (kept-places s ms j))) (mendable-one s (M .one) ms j)
 
@@ -89,6 +90,21 @@ pass-leaves n s ws ms x ws′ ms′ p M h says z t one untrue =
           (and-no-right (lost ms o) (repairs s ws ms (group s o)) (ap (repairs s ws ms) e ∙ repaired-counts s M ws ms j ∙ out)),
     )
 
+pub pass-agrees : Pass-agrees
+unfolding Pass-agrees Before-and-after fits
+pass-agrees n s ws ms x ws′ ms′ cs F C says =
+    rw (C .is, says .word, says .marks) (go (eqb (pass-refusal n s ws ms) 0) refl)
+  where
+    after : pass-refusal n s ws ms ≡ 0 → agrees s (encoded s (C .message)) ws ms ≡ agrees s (encoded s (C .message)) (passed s ws ms) (marks-after s ws ms)
+    after e =
+        let P = pass-passed n s ws ms e in
+        rw (C .good) at (before-and-after s ws ms (C .message) (F (P .accepted)) (P .word-length))
+
+    go : (b : Bool) → eqb (pass-refusal n s ws ms) 0 ≡ b
+        → agrees s (encoded s (C .message)) ws ms ≡ agrees s (encoded s (C .message)) (cond b (passed s ws ms) ws) (cond b (marks-after s ws ms) ms)
+    go true e = after (eqb→eq (pass-refusal n s ws ms) 0 (so e))
+    go false e = refl
+
 -- question 6
 pub pass-accepts : Pass-accepts
 unfolding Pass-accepts Answers pass-refusal reads-below
@@ -106,4 +122,4 @@ pass-accepts s xs ws ms x ws′ ms′ w m t agree says =
     either false b f = tt
 
 pub promises : Promises
-promises = record { pass-counts = pass-counts; pass-restores = pass-restores; pass-leaves = pass-leaves; pass-keeps = pass-keeps; pass-accepts = pass-accepts }
+promises = record { pass-counts = pass-counts; pass-restores = pass-restores; pass-leaves = pass-leaves; pass-keeps = pass-keeps; pass-agrees = pass-agrees; pass-accepts = pass-accepts }

@@ -5,6 +5,7 @@
 --   Pass-restores    a group's only lost symbol is the codeword's after the pass, and kept, if the mates' are
 --   Pass-leaves      a group with exactly one loss stays as it was, and is not counted, where no codeword has the mates' symbols
 --   Pass-keeps       all else stays
+--   Pass-agrees      just the same codewords agree with the kept symbols before and after, whatever the word, and where the pass refuses it too
 --   Pass-accepts     where the numbers of the code are not refused, question 6 is passed where the symbols that are read are a codeword's
 --   Promises         all of them
 use mathlib.Core.Path.{_≡_}
@@ -17,8 +18,8 @@ use Rattle.algebra.specs.Sequence.{at, count, all-below}
 use Rattle.code.specs.declared.Shape.{Shape}
 use Rattle.code.specs.declared.Answer.{Answer}
 use Rattle.code.specs.Shape.{groups, group, mates}
-use Rattle.code.specs.Codeword.{encoded}
-use Rattle.code.specs.Decoding.{lost}
+use Rattle.code.specs.Codeword.{encoded, Codeword}
+use Rattle.code.specs.Decoding.{lost, agrees}
 use Rattle.code.specs.Erasure.{group-losses}
 use Rattle.code.specs.Repair.{symbols-of}
 use Rattle.code.specs.Held.{held}
@@ -54,6 +55,11 @@ Pass-keeps =
     (n : ℕ) (s : Shape) (ws ms : List ℕ) (x : Answer) (ws′ ms′ : List ℕ) (p : ℕ) → p < s .n → Pass-says n s ws ms x ws′ ms′ → mends s ws ms p ≡ false
     → (at ws′ p ≡ at ws p) × (at ms′ p ≡ at ms p)
 
+unfoldable pub Pass-agrees : Type 0
+Pass-agrees =
+    (n : ℕ) (s : Shape) (ws ms : List ℕ) (x : Answer) (ws′ ms′ cs : List ℕ) → (n ≡ 0 → Family s) → Codeword s cs → Pass-says n s ws ms x ws′ ms′
+    → agrees s cs ws ms ≡ agrees s cs ws′ ms′
+
 unfoldable pub Pass-accepts : Type 0
 Pass-accepts =
     (s : Shape) (xs ws ms : List ℕ) (x : Answer) (ws′ ms′ : List ℕ) → length ws ≡ s .n → length ms ≡ s .n → all-below 2 ms ≡ true
@@ -64,4 +70,5 @@ pub record Promises : Type 0 where
   pub pass-restores : Pass-restores
   pub pass-leaves : Pass-leaves
   pub pass-keeps : Pass-keeps
+  pub pass-agrees : Pass-agrees
   pub pass-accepts : Pass-accepts
