@@ -8,6 +8,7 @@ ghost use Rattle.view.specs.View.{view-refusal, first-slot};
 ghost use Rattle.pass.specs.Pass.{Pass-says};
 ghost use Rattle.grading.specs.Grade.{Grade-says};
 ghost use Rattle.decode.specs.Decode.{Decode-says};
+ghost use Rattle.decode_near.specs.Near.{Near-says};
 ghost use Rattle.sheet.specs.Calls.{Write-says};
 ghost use Rattle.reporting.specs.Report.{Report-says};
 ghost use Rattle.preview_sheet.specs.Text.{Sheet-preview-says};
@@ -205,6 +206,36 @@ pub extern "C" fn latsefidy_decode(
         message,
         work,
     )
+}
+
+// Decodes after the local pass on a copy, and counts the groups that it mended.
+#[no_mangle]
+pub extern "C" fn latsefidy_decode_near(
+    field: u32,
+    r: u32,
+    n: u32,
+    k: u32,
+    wiring: u32,
+    word: &[u8],
+    marks: &[u8],
+    message: &mut [u8],
+    work: &mut [u8],
+) -> u64
+    ensures { λ x. ⌜ Near-says (code-refusal (code-of field r n k wiring)) (single (code-of field r n k wiring)) (now (word .entry)) (now (marks .entry)) (unpacked x) (now (message .entry)) (now (message .exit)) (now (work .entry)) (now (work .exit)) ⌝ }
+{
+    packed(decode_near::decode_near(
+        Code {
+            field,
+            r,
+            n,
+            k,
+            wiring,
+        },
+        word,
+        marks,
+        message,
+        work,
+    ))
 }
 
 // Grades a stripe by its marks.
