@@ -55,6 +55,12 @@ def decodes(code, word, marks, message, work):
     line(refusal, *ref.grade(code, marks, work), *message)
 
 
+def nears(code, word, marks, message, work):
+    answer = ref.decode_near(code, word, marks, message, work)
+    head("near", code)
+    line(*answer, *message)
+
+
 def previews(code, slot, marks, work):
     out = [0] * 3
     refusal = ref.preview(code, slot, marks, work, out)
@@ -88,6 +94,15 @@ def classroom():
         ("000020000", word),
     ]:
         decodes(code, received, bytes(map(int, text)), bytearray([7] * 4), bytearray(45))
+    for text, received in [
+        ("000000000", word),
+        ("100010001", word),
+        ("001001111", word),
+        ("001111111", word),  # group 0 is mended, and 10
+        ("100010000", word[:8] + b"\x01"),  # two groups are mended, and 9
+        ("000020000", word),
+    ]:
+        nears(code, received, bytes(map(int, text)), bytearray([7] * 4), bytearray(45))
     for slot, text in [
         (7, "000000000"),
         (4, "111100000"),
@@ -137,7 +152,9 @@ def told_mates():
     repairs(spread, 7, bytes([10, 200, 30, 140]))
     repairs(short, 0, bytes([6, 2, 4]))  # of degree 2
     repairs(short, 0, bytes([8, 12, 5]))  # of degree 1, and of no codeword
-    passes(ref.Code(0, 2, 9, 1), bytearray([255, 5, 7, 4, 255, 4, 255, 255, 6]), bytearray([1, 0, 0, 0, 1, 0, 1, 1, 0]))
+    word, marks = bytearray([255, 5, 7, 4, 255, 4, 255, 255, 6]), bytearray([1, 0, 0, 0, 1, 0, 1, 1, 0])
+    nears(ref.Code(0, 2, 9, 1), word, marks, bytearray([7]), bytearray(18))
+    passes(ref.Code(0, 2, 9, 1), word, marks)
 
 
 def wired(field, *message):
@@ -151,6 +168,7 @@ def wired(field, *message):
     views(code, 4, bytes([10]))
     for text in ("110110000", "111001001", "110110100"):
         decodes(code, word, bytes(map(int, text)), bytearray([7] * 4), bytearray(45))
+        nears(code, word, bytes(map(int, text)), bytearray([7] * 4), bytearray(45))
     for slot, text in [(6, "110110000"), (0, "110000000")]:
         previews(code, slot, bytes(map(int, text)), bytearray(45))
     for text in ("110000000", "010010000"):
@@ -172,6 +190,7 @@ def short(field, *message):
     views(code, 9, word)
     for text in ("10000000001", "11000000011", "10000100111", "11100000011"):
         decodes(code, word, bytes(map(int, text)), bytearray([7] * 5), bytearray(66))
+        nears(code, word, bytes(map(int, text)), bytearray([7] * 5), bytearray(66))
     for slot, text in [(10, "10000000010"), (8, "10000100011")]:
         previews(code, slot, bytes(map(int, text)), bytearray(66))
     for text in ("00000000011", "00000000110"):
@@ -195,6 +214,7 @@ def corner(*numbers):
     encodes(code, message, word)
     word[0], marks[0] = 255, 1
     decodes(code, word, marks, bytearray(code.k), bytearray(code.n * (code.k + 1)))
+    nears(code, word, marks, bytearray(code.k), bytearray(code.n * (code.k + 1)))
     previews(code, code.n - 1, marks, bytearray(code.n * (code.k + 1)))
     passes(code, word, marks)
 

@@ -122,6 +122,23 @@ pub fn decodes(code: Code, word: &[u8], marks: &[u8], used: usize) {
     put_decoded(code, grade, refusal, message);
 }
 
+// The line of a decoding that mends first.
+fn put_near(code: Code, answer: Answer, message: &[u8]) {
+    head(b"near ", code);
+    show::put(answer.refusal);
+    show::put(answer.value);
+    show::put_line(message);
+}
+
+// Decodes the kept symbols of a word after the local pass, with so many bytes of work.
+pub fn nears(code: Code, word: &[u8], marks: &[u8], used: usize) {
+    let mut room = [7u8; 240];
+    let mut work = work_room();
+    let message = front(&mut room, code.k as usize);
+    let answer = decode_near::decode_near(code, word, marks, message, front(&mut work, used));
+    put_near(code, answer, message);
+}
+
 // Previews the loss of a slot, with so many bytes of work.
 pub fn previews(code: Code, slot: u32, marks: &[u8], used: usize) {
     let mut work = work_room();

@@ -55,7 +55,7 @@ fn last_slot(code: Code) -> u32 {
     n - 1
 }
 
-// Encodes, loses the first slot, decodes with so many bytes of work, previews the loss of the last slot, and mends the first.
+// Encodes, loses the first slot, decodes both ways with so many bytes of work, previews the loss of the last slot, and mends the first.
 fn corner(code: Code, used: usize) {
     let mut word_room = spoiled(code);
     let mut marks_room = first_lost();
@@ -63,6 +63,7 @@ fn corner(code: Code, used: usize) {
     let word = calls::front(&mut word_room, n);
     let marks = calls::front(&mut marks_room, n);
     calls::decodes(code, word, marks, used);
+    calls::nears(code, word, marks, used);
     calls::previews(code, last_slot(code), marks, used);
     let answer = pass::local_pass(code, word, marks);
     calls::put_mended(code, answer, word, marks);

@@ -50,6 +50,31 @@ fn classroom_losses() {
     loses(b"\x00\x00\x00\x00\x02\x00\x00\x00\x00");
 }
 
+// Decodes the word of four ones with marks, after the local pass.
+fn mends(marks: &[u8]) {
+    calls::nears(
+        calls::class(),
+        b"\x04\x08\x07\x01\x0b\x02\x00\x00\x00",
+        marks,
+        45,
+    );
+}
+
+// Its losses with the groups that are mended: none, all, two; one and undecided; two and foreign; and a mark that is none.
+fn classroom_nears() {
+    mends(b"\x00\x00\x00\x00\x00\x00\x00\x00\x00");
+    mends(b"\x01\x00\x00\x00\x01\x00\x00\x00\x01");
+    mends(b"\x00\x00\x01\x00\x00\x01\x01\x01\x01");
+    mends(b"\x00\x00\x01\x01\x01\x01\x01\x01\x01");
+    calls::nears(
+        calls::class(),
+        b"\x04\x08\x07\x01\x0b\x02\x00\x00\x01",
+        b"\x01\x00\x00\x00\x01\x00\x00\x00\x00",
+        45,
+    );
+    mends(b"\x00\x00\x00\x00\x02\x00\x00\x00\x00");
+}
+
 // Previews of slots: kept ones that every grade follows, one that is lost already, and 7 before 8.
 fn classroom_previews() {
     let code = calls::class();
@@ -119,6 +144,7 @@ fn main() {
     classroom_encoding();
     classroom_repair();
     classroom_losses();
+    classroom_nears();
     classroom_previews();
     questions();
     short_questions();

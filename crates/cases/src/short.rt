@@ -36,9 +36,10 @@ fn counts(code: Code) {
     calls::repairs(code, 11, b"\x07\x06");
 }
 
-// Decodes with so much work as a code with k 5 wants.
+// Decodes as it is and after the local pass, with so much work as a code with k 5 wants.
 fn decodes(code: Code, word: &[u8], marks: &[u8]) {
     calls::decodes(code, word, marks, 66);
+    calls::nears(code, word, marks, 66);
 }
 
 // Losses within the guarantee, which is 4; at it; beyond it and decided; and undecided.

@@ -33,11 +33,12 @@ fn beside_short() {
     calls::repairs(code, 0, b"\x08\x0c\x05");
 }
 
-// A group whose kept symbols no codeword has, one that is mended, and one with two losses.
+// A group whose kept symbols no codeword has, one that is mended, and one with two losses: decoded after the pass, and mended.
 fn left_and_mended() {
     let code = calls::code_of(0, 2, 9, 1, 0);
     let mut word = [255u8, 5, 7, 4, 255, 4, 255, 255, 6];
     let mut marks = [1u8, 0, 0, 0, 1, 0, 1, 1, 0];
+    calls::nears(code, &word, &marks, 18);
     let answer = pass::local_pass(code, &mut word, &mut marks);
     calls::put_mended(code, answer, &word, &marks);
 }

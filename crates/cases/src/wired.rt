@@ -28,11 +28,17 @@ fn repairs(code: Code) {
     calls::views(code, 4, b"\x0a");
 }
 
+// Decodes as it is and after the local pass, with so much work as a code with k 4 wants.
+fn decodes(code: Code, word: &[u8], marks: &[u8]) {
+    calls::decodes(code, word, marks, 45);
+    calls::nears(code, word, marks, 45);
+}
+
 // Losses at the guarantee, which is 4; beyond it and decided; and undecided.
 fn loses(code: Code, word: &[u8]) {
-    calls::decodes(code, word, b"\x01\x01\x00\x01\x01\x00\x00\x00\x00", 45);
-    calls::decodes(code, word, b"\x01\x01\x01\x00\x00\x01\x00\x00\x01", 45);
-    calls::decodes(code, word, b"\x01\x01\x00\x01\x01\x00\x01\x00\x00", 45);
+    decodes(code, word, b"\x01\x01\x00\x01\x01\x00\x00\x00\x00");
+    decodes(code, word, b"\x01\x01\x01\x00\x00\x01\x00\x00\x01");
+    decodes(code, word, b"\x01\x01\x00\x01\x01\x00\x01\x00\x00");
 }
 
 // One loss more than the guarantee, and a slot that is lost already.

@@ -24,7 +24,7 @@ fn run(record: &[u8], call: Call) -> bool {
         2 => few::run_weights(record, call),
         3 | 5 => few::run_one(record, call),
         6 => few::run_pass(record, call),
-        7 | 11 => many::run_word(record, call),
+        7 | 11 | 15 => many::run_word(record, call),
         10 => many::run_sheet(record),
         _ => few::run_two(record, call),
     }
@@ -44,7 +44,7 @@ fn run_all(input: &[u8], counts: &mut [u32]) {
 fn main() {
     let mut room = vectors::room();
     let n = io::read_full(0, &mut room);
-    let mut counts = [0u32; 26];
+    let mut counts = [0u32; 32];
     run_all(&room[..n], &mut counts);
     tally::put_lines(&counts);
 }

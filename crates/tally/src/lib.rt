@@ -1,5 +1,5 @@
 // Counts of calls and of their mismatches, and the lines that print them.
-// Number i of the counts is how often call i was made, from 1 to 12, and number 13 + i is how often it mismatched.
+// Number i of the counts is how often call i was made, from 1 to 15, and number 16 + i is how often it mismatched.
 
 // One more.
 fn more(n: u32) -> u32 {
@@ -18,12 +18,12 @@ fn count_up(counts: &mut [u32], i: usize) {
 
 // Counts a call, and a mismatch where it does not agree.
 pub fn count(counts: &mut [u32], call: u32, agrees: bool) {
-    if 13 <= call {
+    if 16 <= call {
         return;
     }
     count_up(counts, call as usize);
     if !agrees {
-        count_up(counts, call as usize + 13);
+        count_up(counts, call as usize + 16);
     }
 }
 
@@ -41,7 +41,7 @@ fn put_line(name: &[u8], counts: &[u32], call: u8) {
     io::write_all(1, b" calls ");
     show::put(number_at(counts, call as usize));
     io::write_all(1, b"mismatches ");
-    io::print_decimal(1, number_at(counts, call as usize + 13) as u64);
+    io::print_decimal(1, number_at(counts, call as usize + 16) as u64);
     io::write_all(1, b"\n");
 }
 
@@ -55,12 +55,13 @@ fn put_low(counts: &[u32]) {
     put_line(b"local_pass", counts, 6);
 }
 
-// The lines of calls 7, 8, 10 and 11; the record and the report are not made here.
+// The lines of calls 7, 8, 10, 11 and 15; the record, the report and the previews are not made here.
 fn put_high(counts: &[u32]) {
     put_line(b"decode", counts, 7);
     put_line(b"grade", counts, 8);
     put_line(b"read_sheet", counts, 10);
     put_line(b"write_sheet", counts, 11);
+    put_line(b"decode_near", counts, 15);
 }
 
 // The lines of all calls.

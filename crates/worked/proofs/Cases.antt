@@ -27,7 +27,7 @@ use Rattle.words.specs.Word.{word-bytes, bytes, word-at, code-word, kept-word, 
 use Rattle.sheet.specs.Sheet.{sheet-words, middle-word, code-in, symbols-in, marks-in}
 use Rattle.worked.specs.Case.{N, ones, word, W, wired-ones, wired-message, wired-word, B, byte-message, byte-word, Cases-hold}
 use Rattle.worked.proofs.Quick.{raised, place-point, inverted, weighed, weights-by, points-from, drawn, drawn-is}
-use Rattle.worked.proofs.Deciding.{covered, spread, restorable, left-after, first-differs, holds, untrue, pass-to, with-pass, within, past, foreign, undecided, graded-three, graded-four, previewed}
+use Rattle.worked.proofs.Deciding.{covered, spread, restorable, left-after, first-differs, holds, untrue, pass-to, with-pass, within, past, near, near-none, foreign, undecided, graded-three, graded-four, previewed}
 use Rattle.worked.proofs.ShortCases.{_&_}
 use Rattle.worked.proofs.ToldCases.{K, KW, R, k-family, v-family, r-family, told-cases-hold}
 
@@ -122,6 +122,10 @@ cases-hold =
     & (refl, foreign SN family ones word refl ones-encoded _ _ (0 ∷ 0 ∷ 0 ∷ 0 ∷ 0 ∷ 0 ∷ 0 ∷ 0 ∷ 1 ∷ []) 8 refl refl (lit≤ tt) (lit< tt) refl (λ z. omega arith))
     & (refl, undecided SN family ones word refl ones-encoded (0 ∷ 8 ∷ 2 ∷ 7 ∷ []) _ refl rival-encoded (first-differs _ _ (λ z. omega arith)) _ _ refl refl)
     & (refl, graded-four SN family ones word refl ones-encoded (0 ∷ 8 ∷ 2 ∷ 7 ∷ []) _ refl rival-encoded (first-differs _ _ (λ z. omega arith)) (1 ∷ 1 ∷ 1 ∷ 1 ∷ 1 ∷ 1 ∷ 1 ∷ 1 ∷ 1 ∷ []) refl)
+    & (refl, near SN family ones word refl ones-encoded _ _ refl refl (lit≤ tt) _ refl)
+    & (refl, near SN family ones word refl ones-encoded _ _ refl refl (lit≤ tt) _ refl)
+    & (refl, near SN family ones word refl ones-encoded _ _ refl refl (lit≤ tt) _ refl)
+    & (refl, near-none SN family _ _ refl 10 (λ z. omega arith) (undecided SN family ones word refl ones-encoded (0 ∷ 8 ∷ 2 ∷ 7 ∷ []) _ refl rival-encoded (first-differs _ _ (λ z. omega arith)) _ _ refl refl))
     & (refl, lit< tt, refl)
     & (refl, lit< tt, refl)
     & (refl, lit< tt, previewed SN 8 (0 ∷ 0 ∷ 1 ∷ 0 ∷ 0 ∷ 1 ∷ 1 ∷ 1 ∷ 0 ∷ []) (0 ∷ 0 ∷ 1 ∷ 0 ∷ 0 ∷ 1 ∷ 1 ∷ 1 ∷ 1 ∷ []) refl refl (graded-three SN family ones word refl ones-encoded (0 ∷ 0 ∷ 1 ∷ 0 ∷ 0 ∷ 1 ∷ 1 ∷ 1 ∷ 1 ∷ []) refl refl refl (lit≤ tt)) refl)
@@ -155,6 +159,7 @@ cases-hold =
     & with-pass refl (pass-to SB byte-family byte-message byte-word refl byte-encoded (255 ∷ 108 ∷ 97 ∷ 255 ∷ 255 ∷ 1 ∷ 53 ∷ 176 ∷ 125 ∷ []) (1 ∷ 0 ∷ 0 ∷ 1 ∷ 1 ∷ 0 ∷ 0 ∷ 0 ∷ 0 ∷ []) refl refl _ _ _ refl refl refl)
     & (refl, within SW wired-family wired-message wired-word refl wired-encoded _ _ refl (lit≤ tt))
     & (refl, past SW wired-family wired-message wired-word refl wired-encoded _ _ refl refl (lit≤ tt))
+    & (refl, near SW wired-family wired-message wired-word refl wired-encoded _ _ refl refl (lit≤ tt) _ refl)
     & (refl, graded-three SW wired-family wired-message wired-word refl wired-encoded (0 ∷ 0 ∷ 1 ∷ 0 ∷ 0 ∷ 1 ∷ 1 ∷ 1 ∷ 1 ∷ []) refl refl refl (lit≤ tt))
     & (refl, undecided SW wired-family wired-message wired-word refl wired-encoded (11 ∷ 1 ∷ 6 ∷ 5 ∷ []) _ refl wired-rival (first-differs _ _ (λ z. omega arith)) _ _ refl refl)
     & (refl, graded-four SW wired-family wired-message wired-word refl wired-encoded (11 ∷ 1 ∷ 6 ∷ 5 ∷ []) _ refl wired-rival (first-differs _ _ (λ z. omega arith)) (0 ∷ 1 ∷ 1 ∷ 0 ∷ 1 ∷ 1 ∷ 0 ∷ 1 ∷ 0 ∷ []) refl)

@@ -6,8 +6,10 @@
 --   pass-to      the local pass gives the codeword's symbols in every lost slot of a group that can be mended
 --   within       with no more losses than are sure, xs alone fits
 --   past         so too where the local pass brings the losses down to as many
+--   near         so too in decode_near, with the number of groups mended
 --   foreign      no message fits, where another kept symbol than the codeword's is left
 --   undecided    two messages fit, where another codeword has the kept symbols too
+--   near-none    decode_near answers 9 or 10 where decode does
 --   graded-three    grade 3: past the guarantee, where the local pass brings the losses down to as many
 --   graded-four     grade 4: another codeword has the kept symbols too
 --   previewed       a preview by the numbers of the marks that follow
@@ -41,6 +43,7 @@ use Rattle.code.specs.Laws.{Family}
 use Rattle.code.specs.Verdict.{Verdict, one, none, more}
 use Rattle.code.specs.Promise.{Accepted, Message, One-fits, Decodes-back, Before-and-after}
 use Rattle.code.proofs.Accepted.{decodable-of}
+use Rattle.code.proofs.Answers.{answers-no, answers-yes}
 use Rattle.code.proofs.Codewords.{message-is, is-message-of, length-encoded}
 use Rattle.code.proofs.Searching.{any-elim}
 use Rattle.code.proofs.Held.{Holder, has-at, held-of, held-found, held-symbols}
@@ -53,6 +56,8 @@ use Rattle.code.proofs.Graded.{four-of}
 use Rattle.parity.specs.Promise.{Any-mates}
 use Rattle.parity.proofs.Promises.{any-mates}
 use Rattle.previewing.specs.Preview.{marked, preview-of}
+use Rattle.decode_near.specs.Near.{Near-solved}
+use Rattle.decode_near.proofs.Replies.{verdict-after}
 
 -- the received word has the codeword's symbol wherever ns does not say lost, and ms says lost nowhere else
 unfoldable pub covered : (n : ℕ) (ws vs ms ns : List ℕ) → Bool
@@ -137,14 +142,18 @@ module _ (s : Shape) (F : Family s) (xs ws : List ℕ) (m : Message s xs) (e : e
         tabulate-same 0 (λ p. cond (mends s vs ms p) 0 (at ms p)) (λ p. cond (restorable s ms p) 0 (at ms p)) (s .n)
         (λ p l. ap (λ b. cond b 0 (at ms p)) (mends-all p))
 
+    mended-to : (k : ℕ) → count (mendable s ms) (groups s) ≡ k → mended s vs ms ≡ k
+    unfolding mended
+    mended-to k n = count-same (repairs s vs ms) (mendable s ms) (groups s) (λ j l. repairs-all j) ∙ n
+
     pub pass-to : (us ns : List ℕ) (k : ℕ) → tabulate (λ p. cond (restorable s ms p) (at ws p) (at vs p)) (s .n) ≡ us → left-after s ms ≡ ns
         → count (mendable s ms) (groups s) ≡ k → (passed s vs ms ≡ us) × (marks-after s vs ms ≡ ns) × (mended s vs ms ≡ k)
-    unfolding passed mended
+    unfolding passed
     pass-to us ns k t u n = (
       tabulate-same 0 (λ p. cond (mends s vs ms p) (mend s vs ms p) (at vs p)) (λ p. cond (restorable s ms p) (at ws p) (at vs p)) (s .n)
           (λ p l. go p l (mends s vs ms p) refl) ∙ t,
       left-is ∙ u,
-      count-same (repairs s vs ms) (mendable s ms) (groups s) (λ j l. repairs-all j) ∙ n,
+      mended-to k n,
     )
       where
         go : (p : ℕ) → p < s .n → (b : Bool) → mends s vs ms p ≡ b → cond b (mend s vs ms p) (at vs p) ≡ cond (restorable s ms p) (at ws p) (at vs p)
@@ -156,15 +165,30 @@ module _ (s : Shape) (F : Family s) (xs ws : List ℕ) (m : Message s xs) (e : e
   pub within : (vs ms : List ℕ) → agrees s ws vs ms ≡ true → lost-number s ms ≤ guarantee s → (buffer : List ℕ) → Verdict s vs ms buffer xs 0
   within vs ms a l buffer = let o = one-within vs ms a l in one (o .fit) (o .only)
 
-  pub past : (vs ms : List ℕ) → length vs ≡ s .n → agrees s ws vs ms ≡ true → lost-number s (left-after s ms) ≤ guarantee s
-      → (buffer : List ℕ) → Verdict s vs ms buffer xs 0
+  -- what the pass leaves
+  one-after : (vs ms : List ℕ) → length vs ≡ s .n → agrees s ws vs ms ≡ true → lost-number s (left-after s ms) ≤ guarantee s
+      → One-fits s (passed s vs ms) (marks-after s vs ms) xs
   unfolding Decodes-back Before-and-after
-  past vs ms h a l buffer =
+  one-after vs ms h a l =
       let us = passed s vs ms in
       let ns = marks-after s vs ms in
       let f = fits-intro s vs ms xs m (agreed vs ms a) in
       let d = decodes-back s xs us ns F m (fits-agrees s us ns xs (sym (before-and-after s vs ms xs F h) ∙ f)) (rw (left-is vs ms h a) l) in
-      one f (λ ys g. d .1 ys (sym (before-and-after s vs ms ys F h) ∙ g))
+      record { fit = d .0; only = d .1 }
+
+  pub past : (vs ms : List ℕ) → length vs ≡ s .n → agrees s ws vs ms ≡ true → lost-number s (left-after s ms) ≤ guarantee s
+      → (buffer : List ℕ) → Verdict s vs ms buffer xs 0
+  unfolding Before-and-after
+  past vs ms h a l buffer =
+      let o = one-after vs ms h a l in
+      one (before-and-after s vs ms xs F h ∙ o .fit) (λ ys g. o .only ys (sym (before-and-after s vs ms ys F h) ∙ g))
+
+  pub near : (vs ms : List ℕ) → length vs ≡ s .n → agrees s ws vs ms ≡ true → lost-number s (left-after s ms) ≤ guarantee s
+      → (k : ℕ) → count (mendable s ms) (groups s) ≡ k → (buffer : List ℕ) → Near-solved s vs ms (record { refusal = 0; value = k }) buffer xs
+  unfolding Near-solved
+  near vs ms h a l k n buffer =
+      let o = one-after vs ms h a l in
+      (one (o .fit) (o .only), answers-yes 0 (mended s vs ms) _ refl refl (sym (mended-to vs ms h a k n)))
 
   -- a message that fits the received word has the codeword's symbols wherever ns does not say lost
   loosened : (vs ms ns ys : List ℕ) → covered (s .n) ws vs ms ns ≡ true → fits s vs ms ys ≡ true → fits s ws ns ys ≡ true
@@ -206,6 +230,11 @@ module _ (s : Shape) (F : Family s) (xs ws : List ℕ) (m : Message s xs) (e : e
       let own = fits-agrees s ws ms xs (ap (λ w. fits s w ms xs) (sym e) ∙ own-fits s ms xs (message-is s xs m)) in
       let after = left-is ws ms (ap (λ w. length w) (sym e) ∙ length-encoded s xs) (ap (λ w. agrees s w ws ms) (sym e) ∙ own) in
       rw (a, b, c, decided-within s F ms ws (rw after l)) refl
+
+pub near-none : (s : Shape) → Family s → (vs ms : List ℕ) → length vs ≡ s .n → (y : ℕ) → y ≢ 0
+    → ((buffer : List ℕ) → Verdict s vs ms buffer buffer y) → (buffer : List ℕ) → Near-solved s vs ms (record { refusal = y; value = 0 }) buffer buffer
+unfolding Near-solved
+near-none s F vs ms h y e v buffer = (verdict-after s vs ms F h buffer buffer y (v buffer), answers-no y (mended s vs ms) _ refl e refl)
 
 -- the code's groups and mates are such that symbols below q are always some codeword's
 pub any-held : (c : Code) → Accepted c → (p : ℕ) → p < c .n → (c .r ≤ c .k) ⊎ (length (mates (single c) p) < c .r) → (xs : List ℕ)

@@ -29,7 +29,7 @@ use Rattle.words.specs.Word.{word-bytes, bytes, word-at, code-word, kept-word, 
 use Rattle.sheet.specs.Sheet.{sheet-words, middle-word, code-in, symbols-in, marks-in}
 use Rattle.worked.specs.Case.{Holds, byte-message, S, short-message, short-word, T, short-bytes, U, L, short-cases}
 use Rattle.worked.proofs.Quick.{raised, place-point, points-from, inverted, weighed, weights-by, repaired-by, vanish-by, sum-by, symbol-by, drawn-by, drawn-short}
-use Rattle.worked.proofs.Deciding.{covered, restorable, left-after, first-differs, holds, any-held, pass-to, with-pass, within, past, foreign, undecided, graded-three, graded-four, previewed}
+use Rattle.worked.proofs.Deciding.{covered, restorable, left-after, first-differs, holds, any-held, pass-to, with-pass, within, past, near, foreign, undecided, graded-three, graded-four, previewed}
 
 abbrev SS : Shape
 SS = single S
@@ -231,6 +231,7 @@ short-cases-hold =
     & (refl, within SS s-family short-message short-word refl s-encoded _ _ refl (lit≤ tt))
     & (refl, within SS s-family short-message short-word refl s-encoded _ _ refl (lit≤ tt))
     & (refl, past SS s-family short-message short-word refl s-encoded _ _ refl refl (lit≤ tt))
+    & (refl, near SS s-family short-message short-word refl s-encoded _ _ refl refl (lit≤ tt) _ refl)
     & (refl, undecided SS s-family short-message short-word refl s-encoded (10 ∷ 8 ∷ 11 ∷ 5 ∷ 5 ∷ []) _ refl s-rival (first-differs _ _ (λ z. omega arith)) _ _ refl refl)
     & (refl, graded-four SS s-family short-message short-word refl s-encoded (10 ∷ 8 ∷ 11 ∷ 5 ∷ 5 ∷ []) _ refl s-rival (first-differs _ _ (λ z. omega arith)) (1 ∷ 1 ∷ 1 ∷ 1 ∷ 1 ∷ 0 ∷ 0 ∷ 0 ∷ 0 ∷ 0 ∷ 0 ∷ []) refl)
     & (refl, undecided SS s-family short-message short-word refl s-encoded (0 ∷ 4 ∷ 7 ∷ 9 ∷ 6 ∷ []) _ refl s-other (first-differs _ _ (λ z. omega arith)) _ _ refl refl)

@@ -24,6 +24,7 @@ use Rattle.code.specs.Family.{code-of, single, code-refusal}
 use Rattle.code.specs.Verdict.{Verdict}
 use Rattle.code.specs.Promise.{Accepted, Message}
 use Rattle.previewing.specs.Preview.{preview-of}
+use Rattle.decode_near.specs.Near.{Near-solved}
 use Rattle.words.specs.Word.{bytes}
 use Rattle.sheet.specs.Sheet.{sheet-words, code-in, symbols-in, marks-in}
 
@@ -44,6 +45,9 @@ pub data Case : Type 0 where
   -- decoding answers 0 with this message; 9 or 10, with the buffer unchanged
   decodes : (c : Code) (word marks message : List ℕ) → Case
   declines : (c : Code) (word marks : List ℕ) (number : ℕ) → Case
+  -- decoding after the local pass answers 0 with this message and the number of groups mended; 9 or 10, with 0 and the buffer unchanged
+  decodes-near : (c : Code) (word marks message : List ℕ) (mended : ℕ) → Case
+  declines-near : (c : Code) (word marks : List ℕ) (number : ℕ) → Case
   graded : (c : Code) (marks : List ℕ) (grade : ℕ) → Case
   -- the first broken group, 255 if none
   breaks : (c : Code) (marks : List ℕ) (group : ℕ) → Case
@@ -71,6 +75,9 @@ Holds (refuses c p xs) =
     × (held (single c) (mates (single c) p) xs ≡ false)
 Holds (decodes c ws ms xs) = Accepted c × ((buffer : List ℕ) → Verdict (single c) ws ms buffer xs 0)
 Holds (declines c ws ms number) = Accepted c × ((buffer : List ℕ) → Verdict (single c) ws ms buffer buffer number)
+Holds (decodes-near c ws ms xs n) = Accepted c × ((buffer : List ℕ) → Near-solved (single c) ws ms (record { refusal = 0; value = n }) buffer xs)
+Holds (declines-near c ws ms number) =
+    Accepted c × ((buffer : List ℕ) → Near-solved (single c) ws ms (record { refusal = number; value = 0 }) buffer buffer)
 Holds (graded c ms g) = Accepted c × (grade (single c) ms ≡ g)
 Holds (breaks c ms g) = Accepted c × (first-broken (single c) ms ≡ g)
 Holds (previews c p ms l g f) = Accepted c × (p < c .n) × (preview-of (single c) p ms ≡ record { refusal = 0; lost = l; grade = g; first = f })
@@ -279,6 +286,7 @@ short-cases =
     ∷ decodes S (5 ∷ 10 ∷ 12 ∷ 11 ∷ 4 ∷ 9 ∷ 4 ∷ 8 ∷ 7 ∷ 255 ∷ 255 ∷ []) (0 ∷ 0 ∷ 0 ∷ 0 ∷ 0 ∷ 0 ∷ 0 ∷ 0 ∷ 0 ∷ 1 ∷ 1 ∷ []) short-message
     ∷ decodes S (255 ∷ 255 ∷ 255 ∷ 11 ∷ 4 ∷ 9 ∷ 4 ∷ 8 ∷ 7 ∷ 255 ∷ 7 ∷ []) (1 ∷ 1 ∷ 1 ∷ 0 ∷ 0 ∷ 0 ∷ 0 ∷ 0 ∷ 0 ∷ 1 ∷ 0 ∷ []) short-message
     ∷ decodes S (5 ∷ 10 ∷ 255 ∷ 11 ∷ 4 ∷ 255 ∷ 4 ∷ 8 ∷ 255 ∷ 255 ∷ 255 ∷ []) (0 ∷ 0 ∷ 1 ∷ 0 ∷ 0 ∷ 1 ∷ 0 ∷ 0 ∷ 1 ∷ 1 ∷ 1 ∷ []) short-message
+    ∷ decodes-near S (255 ∷ 10 ∷ 12 ∷ 255 ∷ 255 ∷ 9 ∷ 4 ∷ 8 ∷ 7 ∷ 255 ∷ 7 ∷ []) (1 ∷ 0 ∷ 0 ∷ 1 ∷ 1 ∷ 0 ∷ 0 ∷ 0 ∷ 0 ∷ 1 ∷ 0 ∷ []) short-message 2
     ∷ declines S (255 ∷ 255 ∷ 255 ∷ 255 ∷ 255 ∷ 9 ∷ 4 ∷ 8 ∷ 7 ∷ 5 ∷ 7 ∷ []) (1 ∷ 1 ∷ 1 ∷ 1 ∷ 1 ∷ 0 ∷ 0 ∷ 0 ∷ 0 ∷ 0 ∷ 0 ∷ []) 10
     ∷ graded S (1 ∷ 1 ∷ 1 ∷ 1 ∷ 1 ∷ 0 ∷ 0 ∷ 0 ∷ 0 ∷ 0 ∷ 0 ∷ []) 4
     ∷ declines S (255 ∷ 255 ∷ 255 ∷ 11 ∷ 4 ∷ 9 ∷ 4 ∷ 8 ∷ 7 ∷ 255 ∷ 255 ∷ []) (1 ∷ 1 ∷ 1 ∷ 0 ∷ 0 ∷ 0 ∷ 0 ∷ 0 ∷ 0 ∷ 1 ∷ 1 ∷ []) 10
@@ -306,7 +314,7 @@ short-cases =
 abbrev pub straight : List ℕ
 straight = 8 ∷ 12 ∷ 5 ∷ []
 
--- mates of a codeword, some of them of degree k; mates of none; a group that the local pass leaves beside one that it mends
+-- mates of a codeword, some of them of degree k; mates of none; a group that the local pass leaves beside one that it mends, and decode_near's 9 there
 abbrev pub told-cases : List Case
 told-cases =
     repairs (code-of 0 2 3 1 0) 0 (5 ∷ 5 ∷ []) 5
@@ -315,6 +323,7 @@ told-cases =
     ∷ repairs (code-of 0 3 6 2 0) 0 (6 ∷ 2 ∷ 4 ∷ []) 12
     ∷ refuses (code-of 0 3 6 2 0) 0 straight
     ∷ passes (code-of 0 2 9 1 0) (255 ∷ 5 ∷ 7 ∷ 4 ∷ 255 ∷ 4 ∷ 255 ∷ 255 ∷ 6 ∷ []) (1 ∷ 0 ∷ 0 ∷ 0 ∷ 1 ∷ 0 ∷ 1 ∷ 1 ∷ 0 ∷ []) (255 ∷ 5 ∷ 7 ∷ 4 ∷ 4 ∷ 4 ∷ 255 ∷ 255 ∷ 6 ∷ []) (1 ∷ 0 ∷ 0 ∷ 0 ∷ 0 ∷ 0 ∷ 1 ∷ 1 ∷ 0 ∷ []) 1
+    ∷ declines-near (code-of 0 2 9 1 0) (255 ∷ 5 ∷ 7 ∷ 4 ∷ 255 ∷ 4 ∷ 255 ∷ 255 ∷ 6 ∷ []) (1 ∷ 0 ∷ 0 ∷ 0 ∷ 1 ∷ 0 ∷ 1 ∷ 1 ∷ 0 ∷ []) 9
     ∷ short-cases
 
 abbrev pub cases : List Case
@@ -338,6 +347,10 @@ cases =
     ∷ declines N (4 ∷ 8 ∷ 7 ∷ 1 ∷ 11 ∷ 2 ∷ 0 ∷ 0 ∷ 1 ∷ []) (0 ∷ 0 ∷ 0 ∷ 0 ∷ 0 ∷ 0 ∷ 0 ∷ 0 ∷ 0 ∷ []) 9
     ∷ declines N word (1 ∷ 1 ∷ 1 ∷ 1 ∷ 1 ∷ 1 ∷ 1 ∷ 1 ∷ 1 ∷ []) 10
     ∷ graded N (1 ∷ 1 ∷ 1 ∷ 1 ∷ 1 ∷ 1 ∷ 1 ∷ 1 ∷ 1 ∷ []) 4
+    ∷ decodes-near N (255 ∷ 8 ∷ 7 ∷ 255 ∷ 11 ∷ 2 ∷ 255 ∷ 0 ∷ 0 ∷ []) (1 ∷ 0 ∷ 0 ∷ 1 ∷ 0 ∷ 0 ∷ 1 ∷ 0 ∷ 0 ∷ []) ones 3
+    ∷ decodes-near N (255 ∷ 255 ∷ 255 ∷ 255 ∷ 11 ∷ 2 ∷ 0 ∷ 0 ∷ 0 ∷ []) (1 ∷ 1 ∷ 1 ∷ 1 ∷ 0 ∷ 0 ∷ 0 ∷ 0 ∷ 0 ∷ []) ones 1
+    ∷ decodes-near N (4 ∷ 8 ∷ 255 ∷ 1 ∷ 11 ∷ 255 ∷ 255 ∷ 255 ∷ 255 ∷ []) (0 ∷ 0 ∷ 1 ∷ 0 ∷ 0 ∷ 1 ∷ 1 ∷ 1 ∷ 1 ∷ []) ones 2
+    ∷ declines-near N (4 ∷ 8 ∷ 255 ∷ 255 ∷ 255 ∷ 255 ∷ 255 ∷ 255 ∷ 255 ∷ []) (0 ∷ 0 ∷ 1 ∷ 1 ∷ 1 ∷ 1 ∷ 1 ∷ 1 ∷ 1 ∷ []) 10
     ∷ previews N 7 (0 ∷ 0 ∷ 0 ∷ 0 ∷ 0 ∷ 0 ∷ 0 ∷ 0 ∷ 0 ∷ []) 1 1 255
     ∷ previews N 0 (1 ∷ 1 ∷ 1 ∷ 1 ∷ 0 ∷ 0 ∷ 0 ∷ 0 ∷ 0 ∷ []) 4 2 0
     ∷ previews N 8 (0 ∷ 0 ∷ 1 ∷ 0 ∷ 0 ∷ 1 ∷ 1 ∷ 1 ∷ 0 ∷ []) 5 3 2
@@ -371,6 +384,7 @@ cases =
     ∷ passes B (255 ∷ 108 ∷ 97 ∷ 255 ∷ 255 ∷ 1 ∷ 53 ∷ 176 ∷ 125 ∷ []) (1 ∷ 0 ∷ 0 ∷ 1 ∷ 1 ∷ 0 ∷ 0 ∷ 0 ∷ 0 ∷ []) (255 ∷ 108 ∷ 97 ∷ 255 ∷ 244 ∷ 1 ∷ 53 ∷ 176 ∷ 125 ∷ []) (1 ∷ 0 ∷ 0 ∷ 1 ∷ 0 ∷ 0 ∷ 0 ∷ 0 ∷ 0 ∷ []) 1
     ∷ decodes W (255 ∷ 255 ∷ 3 ∷ 255 ∷ 255 ∷ 0 ∷ 6 ∷ 0 ∷ 4 ∷ []) (1 ∷ 1 ∷ 0 ∷ 1 ∷ 1 ∷ 0 ∷ 0 ∷ 0 ∷ 0 ∷ []) wired-message
     ∷ decodes W (10 ∷ 2 ∷ 255 ∷ 9 ∷ 8 ∷ 255 ∷ 255 ∷ 255 ∷ 255 ∷ []) (0 ∷ 0 ∷ 1 ∷ 0 ∷ 0 ∷ 1 ∷ 1 ∷ 1 ∷ 1 ∷ []) wired-message
+    ∷ decodes-near W (10 ∷ 2 ∷ 255 ∷ 9 ∷ 8 ∷ 255 ∷ 255 ∷ 255 ∷ 255 ∷ []) (0 ∷ 0 ∷ 1 ∷ 0 ∷ 0 ∷ 1 ∷ 1 ∷ 1 ∷ 1 ∷ []) wired-message 2
     ∷ graded W (0 ∷ 0 ∷ 1 ∷ 0 ∷ 0 ∷ 1 ∷ 1 ∷ 1 ∷ 1 ∷ []) 3
     ∷ declines W (10 ∷ 255 ∷ 255 ∷ 9 ∷ 255 ∷ 255 ∷ 6 ∷ 255 ∷ 4 ∷ []) (0 ∷ 1 ∷ 1 ∷ 0 ∷ 1 ∷ 1 ∷ 0 ∷ 1 ∷ 0 ∷ []) 10
     ∷ graded W (0 ∷ 1 ∷ 1 ∷ 0 ∷ 1 ∷ 1 ∷ 0 ∷ 1 ∷ 0 ∷ []) 4
