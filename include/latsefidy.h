@@ -40,16 +40,17 @@
  * Alignment. Bytes may stand anywhere; a buffer of 32-bit numbers is aligned as uint32_t is.
  *
  * Stack. Report and preview_sheet take about 66 kilobytes, rebuild about 10 where k is below r and
- * less than 3 where not, decode and record less than 6, preview less than 4, the others 3 or less.
- * No other memory is needed but the buffers. (Measured on the compiled code; no proof covers it.)
+ * less than 3 where not, decode, decode_near and record less than 6, grade and preview less than 4,
+ * the others less than 3. No other memory is needed but the buffers. (Measured on the compiled
+ * code; no proof covers it.)
  *
  * Processors. The archive is for x86-64 and uses SSE2 alone, which each of them has. One built for
  * newer processors (tools/build-for) does not test where it runs: on an older one the program ends
  * by an illegal instruction.
  *
  * Refusals. A call asks questions; the first "no" ends it with that number, and every buffer is
- * then as it was. (Under 9 and 10 alone decode clears the front of work.) 0 is no refusal. Every
- * call with a code first asks of it, in this order:
+ * then as it was. (Under 9 and 10 alone decode and decode_near clear the front of work.) 0 is no
+ * refusal. Every call with a code first asks of it, in this order:
  *   1   is field 0 or 1?
  *   2   is r from 1 to 16, and does r + 1 divide q - 1? (field 0: 1 2 3 5 11; field 1: 2 4 14 16)
  *   3   is n from 1 to q - 1, and not 1 more than a multiple of r + 1?
@@ -71,8 +72,8 @@ extern "C" {
 
 #define LATSEFIDY_VERSION_MAJOR 0
 #define LATSEFIDY_VERSION_MINOR 6
-#define LATSEFIDY_VERSION_PATCH 0
-#define LATSEFIDY_VERSION "0.6.0"
+#define LATSEFIDY_VERSION_PATCH 1
+#define LATSEFIDY_VERSION "0.6.1"
 
 #define LATSEFIDY_WEIGHTS 16        /* length of a weights buffer */
 #define LATSEFIDY_STRIP_MOST 4096   /* most symbols of one strip */
@@ -243,6 +244,29 @@ uint32_t latsefidy_decode(uint32_t field, uint32_t r, uint32_t n, uint32_t k, ui
                           const uint8_t *marks, size_t marks_len,
                           uint8_t *message, size_t message_len,
                           uint8_t *work, size_t work_len);
+
+/* Decodes after the local pass: on a copy of its own it mends each group with exactly one loss, as
+ * the local pass does, and then decodes what that copy keeps. For every input the refusal, message
+ * and work are those of decode.
+ *   word      n symbols, unchanged
+ *   marks     n marks, unchanged
+ *   message   k symbols, written where the refusal is 0
+ *   work      at least n * (k + 1) bytes; 61,455 are enough for every code. Where the refusal is 0,
+ *             9 or 10 the first n * (k + 1) are 0 at the end; the rest is unchanged
+ * Returns the refusal (high) and the number of groups mended (low): those with exactly one loss,
+ * and 0 under any refusal. Asked in the order 1 2 3 4 17 5 8 6 9 10:
+ *   1 to 4  the code, and 17 its wiring
+ *   5       word_len or marks_len is not n, message_len is not k, or work_len is below n * (k + 1)
+ *   8       a mark is neither 0 nor 1
+ *   6       a kept symbol is q or more
+ *   9       no codeword agrees with every kept symbol
+ *   10      more than one does
+ */
+uint64_t latsefidy_decode_near(uint32_t field, uint32_t r, uint32_t n, uint32_t k, uint32_t wiring,
+                               const uint8_t *word, size_t word_len,
+                               const uint8_t *marks, size_t marks_len,
+                               uint8_t *message, size_t message_len,
+                               uint8_t *work, size_t work_len);
 
 /* Grades the losses, by the code and the marks alone:
  *   0  nothing is lost
