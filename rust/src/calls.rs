@@ -177,6 +177,46 @@ impl Code {
         })
     }
 
+    /// Decodes after the local pass: on a copy of its own it mends each group with exactly one loss, as
+    /// [`local_pass`](Code::local_pass) does, and then decodes what that copy keeps. For every input
+    /// the refusal, the message and work are those of [`decode`](Code::decode). Answers how many groups
+    /// were mended: those with exactly one loss.
+    ///
+    /// ```
+    /// use latsefidy::{Code, Refusal};
+    ///
+    /// let code = Code::new(0, 2, 9, 4)?;
+    /// let word = [4, 8, 7, 1, 11, 2, 0, 0, 0];
+    /// let (mut message, mut work) = ([0; 4], [0; 45]);
+    /// let mended = code.decode_near(&word, &[1, 0, 0, 1, 0, 0, 1, 0, 0], &mut message, &mut work)?;
+    /// assert_eq!((mended, message), (3, [1, 1, 1, 1]));
+    /// let mended = code.decode_near(&word, &[1, 1, 1, 1, 0, 0, 0, 0, 0], &mut message, &mut work)?;
+    /// assert_eq!((mended, message), (1, [1, 1, 1, 1])); // slot 3, in group 1; group 0 is lost as a whole
+    /// let answer = code.decode_near(&word, &[0, 0, 0, 0, 1, 1, 1, 1, 1], &mut message, &mut work);
+    /// assert_eq!(answer, Err(Refusal::Undecided));
+    /// # Ok::<(), Refusal>(())
+    /// ```
+    pub fn decode_near(self, word: &[u8], marks: &[u8], message: &mut [u8], work: &mut [u8]) -> Result<u32, Refusal> {
+        let Code { field, r, n, k, wiring } = self;
+        value(unsafe {
+            raw::latsefidy_decode_near(
+                field,
+                r,
+                n,
+                k,
+                wiring,
+                word.as_ptr(),
+                word.len(),
+                marks.as_ptr(),
+                marks.len(),
+                message.as_mut_ptr(),
+                message.len(),
+                work.as_mut_ptr(),
+                work.len(),
+            )
+        })
+    }
+
     /// The grade of the losses, by the code and the marks alone:
     ///
     /// - 0: nothing is lost;

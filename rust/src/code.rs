@@ -215,8 +215,8 @@ impl Code {
         Ok(self.group(self.group_of(slot)?).filter(move |&mate| mate != slot))
     }
 
-    /// Bytes of work that [`decode`](Code::decode), [`grade`](Code::grade), [`preview`](Code::preview)
-    /// and [`record`](Code::record) need: n * (k + 1).
+    /// Bytes of work that [`decode`](Code::decode), [`decode_near`](Code::decode_near),
+    /// [`grade`](Code::grade), [`preview`](Code::preview) and [`record`](Code::record) need: n * (k + 1).
     ///
     /// ```
     /// use latsefidy::Code;

@@ -32,6 +32,11 @@ extern "C" {
         marks: *const u8, marks_len: usize, message: *mut u8, message_len: usize,
         work: *mut u8, work_len: usize,
     ) -> u32;
+    pub fn latsefidy_decode_near(
+        field: u32, r: u32, n: u32, k: u32, wiring: u32, word: *const u8, word_len: usize,
+        marks: *const u8, marks_len: usize, message: *mut u8, message_len: usize,
+        work: *mut u8, work_len: usize,
+    ) -> u64;
     pub fn latsefidy_grade(
         field: u32, r: u32, n: u32, k: u32, wiring: u32, marks: *const u8, marks_len: usize,
         work: *mut u8, work_len: usize,

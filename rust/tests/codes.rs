@@ -1,6 +1,8 @@
 //! What the crate works out of a code's numbers, against the library, over every code there is.
 
 use latsefidy::{Code, Refusal};
+use std::iter::StepBy;
+use std::ops::Range;
 
 /// The number of nonzero symbols of a field.
 fn nonzero(field: u32) -> u32 {
@@ -109,6 +111,8 @@ fn work_is_just_enough() {
         let mut work = vec![0; code.work_len()];
         assert_eq!(code.decode(&zeros, &zeros, &mut message, &mut work), Ok(()));
         assert_eq!(code.decode(&zeros, &zeros, &mut message, &mut work[1..]), Err(Refusal::Length));
+        assert_eq!(code.decode_near(&zeros, &zeros, &mut message, &mut work), Ok(0));
+        assert_eq!(code.decode_near(&zeros, &zeros, &mut message, &mut work[1..]), Err(Refusal::Length));
     }
 }
 
@@ -192,6 +196,55 @@ fn losses_come_back() {
         assert_eq!(code.local_pass(&mut lost, &mut marks), Ok(code.groups().len() as u32));
         assert_eq!((lost, marks), (word, vec![0; code.n() as usize]));
     }
+}
+
+/// Numbers below a bound, the same in every run.
+fn numbers(mut state: u32) -> impl FnMut(usize) -> usize {
+    move |bound| {
+        state ^= state << 13;
+        state ^= state >> 17;
+        state ^= state << 5;
+        state as usize % bound
+    }
+}
+
+/// Decode_near refuses what decode refuses and leaves the message and work that decode leaves; its number is that of the
+/// groups with exactly one loss. Of random losses, with anything in the lost slots, and of codewords and changed ones.
+#[test]
+fn near_is_decode() {
+    let large = [(2, 255, 170), (4, 60, 40), (4, 58, 39), (14, 45, 6), (16, 255, 200), (16, 250, 12)];
+    let large: Vec<Code> = large.map(|(r, n, k)| Code::new(1, r, n, k).unwrap()).into();
+    let spread = large.iter().copied().filter(|code| !is_short(code)).map(wired).collect::<Vec<_>>();
+    let mut below = numbers(2014);
+    let (mut refused, mut mended) = ([0; 11], 0);
+    for code in codes(0).chain(whole(0).map(wired)).chain(large).chain(spread) {
+        let (n, q) = (code.n() as usize, nonzero(code.field()) as usize + 1);
+        for round in 0..24 {
+            let message: Vec<u8> = (0..code.k()).map(|_| below(q) as u8).collect();
+            let (mut word, mut marks) = (vec![0; n], vec![0; n]);
+            code.encode(&message, &mut word).unwrap();
+            // One in each group, or any; past the guarantee too.
+            if round % 3 == 0 {
+                code.groups().for_each(|group| marks[Vec::from_iter(group.clone())[below(group.len())] as usize] = 1);
+            }
+            (0..below(n - code.k() as usize + 2)).for_each(|_| marks[below(n)] = 1);
+            if round % 4 == 0 {
+                word[below(n)] = below(q) as u8;
+            }
+            (0..n).filter(|&p| marks[p] == 1).for_each(|p| word[p] = below(256) as u8);
+            let (mut near, mut far) = (vec![99; message.len()], vec![99; message.len()]);
+            let (mut room, mut work) = (vec![99; code.work_len() + 1], vec![99; code.work_len() + 1]);
+            let single = |group: &StepBy<Range<u32>>| group.clone().filter(|&p| marks[p as usize] == 1).count() == 1;
+            let answer = code.decode(&word, &marks, &mut far, &mut work);
+            let expected = answer.map(|()| code.groups().filter(single).count() as u32);
+            assert_eq!(code.decode_near(&word, &marks, &mut near, &mut room), expected, "{code:?} {word:?} {marks:?}");
+            assert_eq!((near, room), (far, work), "{code:?} {word:?} {marks:?}");
+            refused[answer.map_or_else(|refusal| refusal.number() as usize, |()| 0)] += 1;
+            mended += expected.unwrap_or(0);
+        }
+    }
+    assert!(refused[0] > 1000 && refused[9] > 100 && refused[10] > 100 && mended > 1000, "{refused:?} {mended}");
+    assert_eq!(refused[1..9], [0; 8]);
 }
 
 /// A codeword's mates with one symbol changed are refused in whole groups where k is below r: all of them where no group is

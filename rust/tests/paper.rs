@@ -149,6 +149,72 @@ fn decodes() {
     assert_eq!(decoded(&[4, 8, 7, 1, 11, 2, 0, 0, 1], &[]), Err(Refusal::Foreign));
 }
 
+/// How many groups were mended, and the message; the front of work is clear then, and the rest as it was.
+fn decoded_near(code: Code, word: &[u8], marks: &[u8]) -> Result<(u32, Vec<u8>), Refusal> {
+    let (mut message, mut work) = (vec![99; code.k() as usize], vec![99; code.work_len() + 3]);
+    let answer = code.decode_near(word, marks, &mut message, &mut work);
+    assert!(work[..code.work_len()].iter().all(|&b| b == 0) && work[code.work_len()..] == [99; 3]);
+    assert!(answer.is_ok() || message.iter().all(|&b| b == 99));
+    answer.map(|mended| (mended, message))
+}
+
+#[test]
+fn decodes_near() {
+    let near = |lost: &[usize]| decoded_near(classroom(), &WORD, &marked(lost));
+    assert_eq!(near(&[]), Ok((0, vec![1; 4])));
+    assert_eq!(near(&[4]), Ok((1, vec![1; 4])));
+    assert_eq!(near(&[0, 3, 6]), Ok((3, vec![1; 4])));
+    assert_eq!(near(&[0, 1, 2, 3]), Ok((1, vec![1; 4])));
+    assert_eq!(near(&[2, 5, 6, 7, 8]), Ok((2, vec![1; 4])));
+    assert_eq!(near(&[0, 1, 3, 4]), Ok((0, vec![1; 4])));
+    // Groups that are spread, and a short last group.
+    assert_eq!(decoded_near(wired(), &WIRED, &marked(&[3, 4, 5])), Ok((3, vec![1; 4])));
+    assert_eq!(decoded_near(wired(), &WIRED, &marked(&[0, 1, 2, 3])), Ok((2, vec![1; 4])));
+    assert_eq!(decoded_near(short(), &SHORT, &marked_short(&[0, 1, 2, 9])), Ok((1, vec![1, 2, 3, 4, 5])));
+    assert_eq!(decoded_near(short(), &SHORT, &marked_short(&[2, 5, 8, 9, 10])), Ok((3, vec![1, 2, 3, 4, 5])));
+    // Undecided, with a group that is mended and without one.
+    assert_eq!(near(&[4, 5, 6, 7, 8]), Err(Refusal::Undecided));
+    assert_eq!(near(&[2, 4, 5, 6, 7, 8]), Err(Refusal::Undecided));
+    assert_eq!(near(&[0, 1, 2, 3, 4, 5, 6, 7, 8]), Err(Refusal::Undecided));
+    // Foreign: with nothing lost, and where a group is mended from a wrong symbol.
+    let other = [4, 8, 7, 1, 11, 2, 0, 0, 1];
+    assert_eq!(decoded_near(classroom(), &other, &[0; 9]), Err(Refusal::Foreign));
+    assert_eq!(decoded_near(classroom(), &other, &marked(&[7])), Err(Refusal::Foreign));
+    // Codewords are one symbol nine times: two groups are mended, or one is left and the word refused.
+    let equal = code(0, 2, 9, 1);
+    assert_eq!(decoded_near(equal, &[99, 5, 5, 5, 99, 5, 99, 99, 5], &marked(&[0, 4, 6, 7])), Ok((2, vec![5])));
+    assert_eq!(decoded_near(equal, &[99, 5, 7, 5, 99, 5, 99, 99, 5], &marked(&[0, 4, 6, 7])), Err(Refusal::Foreign));
+}
+
+#[test]
+fn decode_near_asks_in_order() {
+    let (marks, word) = (marked(&[0, 3, 6]), [99, 8, 7, 99, 11, 2, 99, 0, 0]);
+    let (mut bad, mut large, mut foreign) = (marks, word, word);
+    (bad[8], large[8], foreign[8]) = (2, 13, 1);
+    // Lengths, then the marks, then the kept symbols, and only then whether some codeword has them.
+    let refused = [
+        (&word[..8], &marks[..], 4, 45, Refusal::Length),
+        (&word[..], &marks[..8], 4, 45, Refusal::Length),
+        (&word[..], &marks[..], 3, 45, Refusal::Length),
+        (&word[..], &marks[..], 4, 44, Refusal::Length),
+        (&large[..], &bad[..], 4, 44, Refusal::Length),
+        (&large[..], &bad[..], 5, 45, Refusal::Length),
+        (&large[..], &bad[..], 4, 45, Refusal::Mark),
+        (&foreign[..], &bad[..], 4, 50, Refusal::Mark),
+        (&large[..], &marks[..], 4, 45, Refusal::Symbol),
+        (&large[..], &marked(&[0, 1, 2, 3, 4, 5, 6]), 4, 45, Refusal::Symbol),
+    ];
+    for (word, marks, k, room, refusal) in refused {
+        let (mut message, mut work) = (vec![99; k], vec![99; room]);
+        assert_eq!(classroom().decode_near(word, marks, &mut message, &mut work), Err(refusal));
+        assert_eq!((message, work), (vec![99; k], vec![99; room]));
+        let (mut message, mut work) = (vec![99; k], vec![99; room]);
+        assert_eq!(classroom().decode(word, marks, &mut message, &mut work), Err(refusal));
+    }
+    assert_eq!(decoded_near(classroom(), &word, &marks), Ok((3, vec![1; 4])));
+    assert_eq!(decoded_near(classroom(), &foreign, &marks), Err(Refusal::Foreign));
+}
+
 #[test]
 fn grades_and_records() {
     assert_eq!(graded(classroom(), &marked(&[])), 0);
