@@ -35,8 +35,8 @@ typedef struct {
     uint8_t marks[SLOTS], message[SLOTS], sheet[4 * (SLOTS + 2)], work[LATSEFIDY_WORK_MOST];
 } Left;
 
-enum { DECODE, RECORD, WRITE_SHEET, LOCAL_PASS, VIEW, CALLS };
-static const char *const call_name[CALLS] = {"decode", "record", "write_sheet", "local_pass", "view"};
+enum { DECODE, DECODE_NEAR, RECORD, WRITE_SHEET, LOCAL_PASS, VIEW, CALLS };
+static const char *const call_name[CALLS] = {"decode", "decode_near", "record", "write_sheet", "local_pass", "view"};
 
 enum { ZEROS, ONES, RANDOM, OUT_OF_REACH, FILLINGS };
 
@@ -50,7 +50,7 @@ static const Code codes[] = {
 };
 
 static uint32_t state = SEED;
-static unsigned long guarded, answers[11], mended, left_alone;
+static unsigned long guarded, answers[11], mended, left_alone, near;
 
 static uint32_t random_below(uint32_t most) {
     state ^= state << 13;
@@ -196,6 +196,9 @@ static uint64_t make_call(int call, const Stripe *s, uint8_t *word, uint8_t *mar
     switch (call) {
     case DECODE:
         return latsefidy_decode(c.field, c.r, n, k, w, word, n, marks, n, left->message, k, left->work, n * (k + 1));
+    case DECODE_NEAR:
+        return latsefidy_decode_near(c.field, c.r, n, k, w, word, n, marks, n, left->message, k, left->work,
+                                     n * (k + 1));
     case RECORD:
         return latsefidy_record(c.field, c.r, n, k, w, word, n, marks, n, left->message, k, left->work, n * (k + 1),
                                 left->record, LATSEFIDY_RECORD);
@@ -221,6 +224,7 @@ static void run(int call, const Stripe *s, int filling, Left *left, uint8_t afte
     left->answer = make_call(call, s, word, marks, left);
     if (filling == OUT_OF_REACH && call == VIEW) (void)VALGRIND_MAKE_MEM_DEFINED(word, n);
     memcpy(left->marks, marks, n);
+    if (call != LOCAL_PASS && memcmp(marks, s->marks, n) != 0) fail(s, call, "a mark was changed");
     for (uint32_t p = 0; p < n; p++) {
         if (marks[p] == 0) {
             after[p] = word[p];
@@ -238,6 +242,18 @@ static void run(int call, const Stripe *s, int filling, Left *left, uint8_t afte
     free(marks);
 }
 
+/* decode_near refuses what decode refuses; else its number is that of the groups with exactly one loss. */
+static void compare_near(const Stripe *s, uint64_t refusal, uint32_t number) {
+    static Left decoded;
+    uint8_t word[SLOTS];
+    uint32_t single = 0;
+    for (uint32_t p = 0; p < s->code.n; p++) single += s->marks[p] && group_losses(s, p) == 1;
+    run(DECODE, s, ZEROS, &decoded, word);
+    if (refusal != decoded.answer) fail(s, DECODE_NEAR, "not the refusal of decode");
+    if (number != (refusal == 0 ? single : 0)) fail(s, DECODE_NEAR, "not the number of groups with one loss");
+    near += number;
+}
+
 static void compare(int call, const Stripe *s) {
     static Left first, next;
     uint8_t word[SLOTS], other[SLOTS];
@@ -249,11 +265,13 @@ static void compare(int call, const Stripe *s) {
         if (memcmp(&next, &first, sizeof next) != 0) fail(s, call, "a buffer depends on the lost bytes");
         if (memcmp(other, word, sizeof word) != 0) fail(s, call, "the word depends on the lost bytes");
     }
-    if (call != DECODE) return;
-    if (first.answer > 10) fail(s, call, "no such answer");
-    answers[first.answer]++;
-    if (first.answer == 0 && !s->foreign && memcmp(first.message, s->message, s->code.k) != 0)
+    if (call != DECODE && call != DECODE_NEAR) return;
+    const uint64_t refusal = call == DECODE ? first.answer : first.answer >> 32;
+    if (refusal > 10) fail(s, call, "no such answer");
+    if (refusal == 0 && !s->foreign && memcmp(first.message, s->message, s->code.k) != 0)
         fail(s, call, "another message");
+    if (call == DECODE) answers[refusal]++;
+    else compare_near(s, refusal, (uint32_t)first.answer);
 }
 
 /* A load of a byte that is out of reach: valgrind must report it. */
@@ -281,7 +299,7 @@ int main(int argc, char **argv) {
         make_stripe(&s, code, i % COUNT(kinds));
         for (int call = 0; call < CALLS; call++) compare(call, &s);
     }
-    if (!answers[0] || !answers[6] || !answers[9] || !answers[10] || !mended || !left_alone) {
+    if (!answers[0] || !answers[6] || !answers[9] || !answers[10] || !mended || !left_alone || !near) {
         fprintf(stderr, "lost-unread: an answer was never met\n");
         return 1;
     }
