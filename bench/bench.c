@@ -11,12 +11,12 @@
 int wide;
 
 const struct level levels[LEVELS] = {
-    {"x86-64", latsefidy_encode, latsefidy_decode, latsefidy_local_pass, latsefidy_repair, latsefidy_rebuild, latsefidy_grade,
-     latsefidy_preview, latsefidy_preview_sheet, 0},
-    {"v3", latsefidy_encode_v3, latsefidy_decode_v3, latsefidy_local_pass_v3, latsefidy_repair_v3, latsefidy_rebuild_v3,
-     latsefidy_grade_v3, latsefidy_preview_v3, latsefidy_preview_sheet_v3, 0},
-    {"v4", latsefidy_encode_v4, latsefidy_decode_v4, latsefidy_local_pass_v4, latsefidy_repair_v4, latsefidy_rebuild_v4,
-     latsefidy_grade_v4, latsefidy_preview_v4, latsefidy_preview_sheet_v4, 1}};
+    {"x86-64", latsefidy_encode, latsefidy_decode, latsefidy_decode_near, latsefidy_local_pass, latsefidy_repair,
+     latsefidy_rebuild, latsefidy_grade, latsefidy_preview, latsefidy_preview_sheet, 0},
+    {"v3", latsefidy_encode_v3, latsefidy_decode_v3, latsefidy_decode_near_v3, latsefidy_local_pass_v3, latsefidy_repair_v3,
+     latsefidy_rebuild_v3, latsefidy_grade_v3, latsefidy_preview_v3, latsefidy_preview_sheet_v3, 0},
+    {"v4", latsefidy_encode_v4, latsefidy_decode_v4, latsefidy_decode_near_v4, latsefidy_local_pass_v4, latsefidy_repair_v4,
+     latsefidy_rebuild_v4, latsefidy_grade_v4, latsefidy_preview_v4, latsefidy_preview_sheet_v4, 1}};
 
 static double seconds(clockid_t clock) {
     struct timespec t;
@@ -140,7 +140,8 @@ int main(int argc, char **argv) {
         const char *name;
         void (*print)(void);
     } tables[] = {{"rebuild", rebuild}, {"lengths", lengths},    {"mates", true_mates}, {"stripes", stripes}, {"strips", strips},
-                  {"wired", wired},     {"short", short_groups}, {"grades", grades},    {"previews", previews}};
+                  {"wired", wired},     {"short", short_groups}, {"grades", grades},    {"previews", previews},
+                  {"near", near_home}};
     wide = __builtin_cpu_supports("avx512bw") && __builtin_cpu_supports("avx512vl") && __builtin_cpu_supports("avx512dq");
     for (size_t a = 0; a < sizeof tables / sizeof *tables; a++) {
         int named = argc == 1;

@@ -22,6 +22,9 @@
     uint32_t latsefidy_decode##s(uint32_t field, uint32_t r, uint32_t n, uint32_t k, uint32_t wiring, const uint8_t *word,  \
                                  size_t word_len, const uint8_t *marks, size_t marks_len, uint8_t *message,                 \
                                  size_t message_len, uint8_t *work, size_t work_len);                                       \
+    uint64_t latsefidy_decode_near##s(uint32_t field, uint32_t r, uint32_t n, uint32_t k, uint32_t wiring,                  \
+                                      const uint8_t *word, size_t word_len, const uint8_t *marks, size_t marks_len,         \
+                                      uint8_t *message, size_t message_len, uint8_t *work, size_t work_len);                \
     uint64_t latsefidy_grade##s(uint32_t field, uint32_t r, uint32_t n, uint32_t k, uint32_t wiring, const uint8_t *marks,  \
                                 size_t marks_len, uint8_t *work, size_t work_len);                                          \
     uint32_t latsefidy_preview##s(uint32_t field, uint32_t r, uint32_t n, uint32_t k, uint32_t wiring, uint32_t slot,       \
@@ -38,6 +41,7 @@ extern const struct level {
     const char *name;
     __typeof__(latsefidy_encode) *encode;
     __typeof__(latsefidy_decode) *decode;
+    __typeof__(latsefidy_decode_near) *near;
     __typeof__(latsefidy_local_pass) *pass;
     __typeof__(latsefidy_repair) *repair;
     __typeof__(latsefidy_rebuild) *rebuild;
@@ -88,5 +92,6 @@ void wired(void);
 void short_groups(void);
 void grades(void);
 void previews(void);
+void near_home(void);
 
 #endif
