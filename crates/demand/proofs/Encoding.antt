@@ -1,39 +1,21 @@
--- What encode's contract says where it does not refuse. Assumes nothing.
---   encode-passes     a message and a buffer of n are not refused
---   encode-fills      and the codeword is written
+-- What encode's contract says. Assumes nothing.
+--   encode-is         the answer is the refusal
 --   encode-cond       what the buffer holds, by whether it is refused
-use mathlib.Core.Path.{_≡_, refl, sym}
-use mathlib.Core.Bool.{true, cond, _&&_}
+use mathlib.Core.Path.{_≡_}
+use mathlib.Core.Bool.{cond}
 use mathlib.Core.List.{List}
 use Prim.Native.Nat.{ℕ, zero, suc}
 use native.Mathlib.Nat.{suc-ne-zero}
-use borrow.Author.Tests.{eq-eqb, ne-eqb}
+use borrow.Author.Tests.{ne-eqb}
 use lib.Dec.{eqb}
 use lib.ListN.{length}
-use Rattle.algebra.specs.Sequence.{all-below}
-use Rattle.algebra.proofs.Booleans.{yes-true}
-use Rattle.field.specs.Field.{q}
 use Rattle.code.specs.declared.Shape.{Shape}
 use Rattle.code.specs.Answer.{Fills}
-use Rattle.code.specs.Codeword.{is-message, encoded}
-use Rattle.code.proofs.Questions.{ask-yes, or-ask-on}
-use Rattle.code.proofs.Answers.{fills-in, fills-is}
-use Rattle.code.proofs.Codewords.{message-is}
+use Rattle.code.specs.Codeword.{encoded}
+use Rattle.code.proofs.Answers.{fills-is}
 use Rattle.encode.specs.Encode.{encode-refusal, Encode-says}
 
 module _ (n : ℕ) (s : Shape) (ms : List ℕ) where
-  pub encode-passes : (l : ℕ) → n ≡ 0 → is-message s ms ≡ true → l ≡ s .n → encode-refusal n s ms l ≡ 0
-  unfolding encode-refusal
-  encode-passes l e m h =
-      let M = message-is s ms m in
-      let right : (eqb (length ms) (s .k) && eqb l (s .n)) ≡ true = rw (eq-eqb (length ms) (s .k) (M .length-is), eq-eqb l (s .n) h) refl in
-      sym (or-ask-on n _ 0 e (ask-yes 5 right (ask-yes 6 (yes-true (all-below (q (s .field)) ms) (M .below)) refl)))
-
-  pub encode-fills : (x : ℕ) (a z : List ℕ) → n ≡ 0 → is-message s ms ≡ true → length a ≡ s .n → Encode-says n s ms x a z
-      → (x ≡ 0) × (z ≡ encoded s ms)
-  unfolding Encode-says
-  encode-fills x a z e m h says = fills-in (encode-refusal n s ms (length a)) (encoded s ms) x a z (encode-passes (length a) e m h) says
-
   pub encode-is : (x : ℕ) (a z : List ℕ) → Encode-says n s ms x a z → x ≡ encode-refusal n s ms (length a)
   unfolding Encode-says
   encode-is x a z says = fills-is (encode-refusal n s ms (length a)) (encoded s ms) x a z says

@@ -29,7 +29,7 @@ use Rattle.decode.specs.Decode.{Decode-says}
 use Rattle.decode.specs.Promise.{Decodes-returned}
 use Rattle.decode.proofs.Promises.{promises as decode-promises}
 use Rattle.demand.specs.Demand.{long, Within, Shares-at-most, Group-tells, Group-has, Decode-returns, Repair-returns, Promises}
-use Rattle.demand.proofs.Encoding.{encode-fills}
+use Rattle.encode.proofs.Refusal.{encode-fills}
 
 -- k' is k + missing
 long-is : (c : Code) → Accepted c → long c ≡ c .k + missing (single c)

@@ -46,7 +46,7 @@ fn write_short(
 }
 
 // Writes the codeword of a message. Where groups are whole the message is its row, in powers of X to the power of the group size.
-fn write_message(
+pub fn write_message(
     shape: Shape,
     message: &[u8],
     codeword: &mut [u8],

@@ -32,7 +32,7 @@ use Rattle.decode.specs.Promise.{Decodes-returned}
 use Rattle.decode.proofs.Promises.{promises as decode-promises}
 use Rattle.promise.specs.RoundTrip.{after-loss, send-refusal, Handed, Decodes-as, Comes-back, Repairs-as, Restored}
 use Rattle.promise.specs.Step.{Left}
-use Rattle.demand.proofs.Encoding.{encode-passes}
+use Rattle.encode.proofs.Refusal.{encode-passes}
 use Rattle.promise.proofs.Losing.{length-loss, loss-agrees, loss-mates}
 use Rattle.demand.proofs.Promises.{within-sure}
 
