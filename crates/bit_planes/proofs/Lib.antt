@@ -1,0 +1,3 @@
+pub mod Columns
+pub mod Exchanges
+pub mod Turning
