@@ -1,0 +1,3 @@
+pub mod Values
+pub mod Strands
+pub mod Sums
