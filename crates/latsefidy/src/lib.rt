@@ -3,6 +3,7 @@ ghost use lib.ListN.{take};
 ghost use Rattle.code.specs.Answer.{Answers};
 ghost use Rattle.code.specs.Family.{code-of, single, code-refusal};
 ghost use Rattle.encode.specs.Encode.{Encode-says};
+ghost use Rattle.encode_strips.specs.Strips.{Encode-strips-says};
 ghost use Rattle.repair.specs.Mates.{Repair-says, Rebuild-says};
 ghost use Rattle.view.specs.View.{view-refusal, first-slot};
 ghost use Rattle.pass.specs.Pass.{Pass-says};
@@ -43,6 +44,32 @@ pub extern "C" fn latsefidy_encode(
         },
         message,
         codeword,
+    )
+}
+
+// Encodes strips: column c of the codewords is encode of column c of the messages.
+#[no_mangle]
+pub extern "C" fn latsefidy_encode_strips(
+    field: u32,
+    r: u32,
+    n: u32,
+    k: u32,
+    wiring: u32,
+    messages: &[u8],
+    codewords: &mut [u8],
+) -> u32
+    ensures { λ x. ⌜ Encode-strips-says (code-refusal (code-of field r n k wiring)) (single (code-of field r n k wiring)) (now (messages .entry)) x (now (codewords .entry)) (now (codewords .exit)) ⌝ }
+{
+    encode_strips::encode_strips(
+        Code {
+            field,
+            r,
+            n,
+            k,
+            wiring,
+        },
+        messages,
+        codewords,
     )
 }
 

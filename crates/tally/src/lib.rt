@@ -55,7 +55,7 @@ fn put_low(counts: &[u32]) {
     put_line(b"local_pass", counts, 6);
 }
 
-// The lines of calls 7, 8, 10, 11 and 15; the record, the report and the previews are not made here.
+// The lines of calls 7, 8, 10, 11 and 15; the record, the report, the previews and the encode of strips are not made here.
 fn put_high(counts: &[u32]) {
     put_line(b"decode", counts, 7);
     put_line(b"grade", counts, 8);
