@@ -39,10 +39,10 @@
  *
  * Alignment. Bytes may stand anywhere; a buffer of 32-bit numbers is aligned as uint32_t is.
  *
- * Stack. Report and preview_sheet take about 66 kilobytes, rebuild about 10 where k is below r and
- * less than 3 where not, decode, decode_near and record less than 6, grade and preview less than 4,
- * the others less than 3. No other memory is needed but the buffers. (Measured on the compiled
- * code; no proof covers it.)
+ * Stack. Encode_strips takes about 107 kilobytes, report and preview_sheet about 66, rebuild about
+ * 10 where k is below r and less than 3 where not, decode, decode_near and record less than 6,
+ * grade and preview less than 4, the others less than 3. No other memory is needed but the buffers.
+ * (Measured on the compiled code; no proof covers it.)
  *
  * Processors. The archive is for x86-64 and uses SSE2 alone, which each of them has. One built for
  * newer processors (tools/build-for) does not test where it runs: on an older one the program ends
@@ -150,6 +150,21 @@ static inline uint32_t latsefidy_value(uint64_t answer) { return (uint32_t)answe
 uint32_t latsefidy_encode(uint32_t field, uint32_t r, uint32_t n, uint32_t k, uint32_t wiring,
                           const uint8_t *message, size_t message_len,
                           uint8_t *codeword, size_t codeword_len);
+
+/* Encodes strips, many messages at once: column c of the codewords, symbol c of each strip, is what
+ * encode writes of column c of the messages. Over field 1, with whole groups and k up to 16 * r,
+ * one call on long strips costs far less than a call of encode for each column; else about as much.
+ * L, the symbols of one strip, is codewords_len / n, from 1 to 4,096.
+ *   messages   k * L symbols: a strip for each symbol of a message, end to end
+ *   codewords  n * L symbols, written: a strip for each slot, in slot order, end to end
+ * Returns 0 or the refusal, asked in the order 1 2 3 4 17 5 6:
+ *   1 to 4  the code, and 17 its wiring
+ *   5       codewords_len is not n * L with L from 1 to 4,096, or messages_len is not k * L
+ *   6       a symbol of the messages is q or more
+ */
+uint32_t latsefidy_encode_strips(uint32_t field, uint32_t r, uint32_t n, uint32_t k,
+                                 uint32_t wiring, const uint8_t *messages, size_t messages_len,
+                                 uint8_t *codewords, size_t codewords_len);
 
 /* The repair weights of a slot, one a mate, in slot order of its mates: the slot's symbol is the
  * sum of weight times mate.
