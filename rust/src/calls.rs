@@ -29,6 +29,30 @@ impl Code {
         accepted(unsafe { raw::latsefidy_encode(field, r, n, k, wiring, message.as_ptr(), message.len(), to, len) })
     }
 
+    /// Encodes many messages at once: k strips, one for each symbol of a message, to n strips, one
+    /// for each slot, all end to end and of one length, 1 to [`STRIP_MOST`](crate::STRIP_MOST)
+    /// symbols. Column c of the codewords, symbol c of each strip, is what [`encode`](Code::encode)
+    /// writes of column c of the messages. The call takes about 107 kilobytes of stack.
+    ///
+    /// ```
+    /// use latsefidy::{Code, Refusal};
+    ///
+    /// let code = Code::new(0, 2, 9, 4)?;
+    /// let messages = [1, 1, 1, 2, 1, 3, 1, 4]; // the columns 1 1 1 1 and 1 2 3 4
+    /// let mut codewords = [0; 18];
+    /// code.encode_strips(&messages, &mut codewords)?;
+    /// assert_eq!(codewords, [4, 10, 8, 9, 7, 6, 1, 2, 11, 8, 2, 0, 0, 3, 0, 0, 0, 4]);
+    /// assert_eq!(code.encode_strips(&messages, &mut codewords[1..]), Err(Refusal::Length));
+    /// assert_eq!(code.encode_strips(&[1, 1, 1, 2, 1, 3, 1, 13], &mut codewords), Err(Refusal::Symbol));
+    /// # Ok::<(), Refusal>(())
+    /// ```
+    pub fn encode_strips(self, messages: &[u8], codewords: &mut [u8]) -> Result<(), Refusal> {
+        let Code { field, r, n, k, wiring } = self;
+        let (from, from_len) = (messages.as_ptr(), messages.len());
+        let (to, len) = (codewords.as_mut_ptr(), codewords.len());
+        accepted(unsafe { raw::latsefidy_encode_strips(field, r, n, k, wiring, from, from_len, to, len) })
+    }
+
     /// The repair weights of a slot, one a mate, in slot order of its mates, and then zeros: the
     /// slot's symbol is the sum of weight times mate.
     ///

@@ -10,6 +10,10 @@ extern "C" {
         field: u32, r: u32, n: u32, k: u32, wiring: u32, message: *const u8, message_len: usize,
         codeword: *mut u8, codeword_len: usize,
     ) -> u32;
+    pub fn latsefidy_encode_strips(
+        field: u32, r: u32, n: u32, k: u32, wiring: u32, messages: *const u8, messages_len: usize,
+        codewords: *mut u8, codewords_len: usize,
+    ) -> u32;
     pub fn latsefidy_weights(
         field: u32, r: u32, n: u32, k: u32, wiring: u32, slot: u32, weights: *mut u8, weights_len: usize,
     ) -> u32;

@@ -208,6 +208,40 @@ fn numbers(mut state: u32) -> impl FnMut(usize) -> usize {
     }
 }
 
+/// Encode_strips writes, column by column, what encode writes, at lengths about those where it takes another way; under any
+/// refusal it writes nothing.
+#[test]
+fn strips_are_columns() {
+    let large = [(2, 255, 170), (4, 20, 12), (4, 8, 5), (14, 45, 6), (16, 255, 240), (16, 250, 230)];
+    let large: Vec<Code> = large.map(|(r, n, k)| Code::new(1, r, n, k).unwrap()).into();
+    let spread = large.iter().copied().filter(|code| !is_short(code)).map(wired).collect::<Vec<_>>();
+    let mut below = numbers(2014);
+    for code in codes(0).chain(whole(0).map(wired)).chain(large).chain(spread) {
+        let (n, k, q) = (code.n() as usize, code.k() as usize, nonzero(code.field()) as usize + 1);
+        let longest = if code.field() == 0 { 300 } else { 4096 };
+        for l in [1, 2, 7, 8, 9, 63, 64, 65, 129, longest] {
+            let messages: Vec<u8> = (0..k * l).map(|_| below(q) as u8).collect();
+            let (mut codewords, mut codeword) = (vec![99; n * l], vec![99; n]);
+            assert_eq!(code.encode_strips(&messages, &mut codewords), Ok(()), "{code:?} {l}");
+            for c in 0..l {
+                let message: Vec<u8> = messages.iter().skip(c).step_by(l).copied().collect();
+                code.encode(&message, &mut codeword).unwrap();
+                assert!(codewords.iter().skip(c).step_by(l).eq(&codeword), "{code:?} {l} column {c}");
+            }
+        }
+        for (messages, codewords) in [(0, 0), (k, n + 1), (k + 1, n), (2 * k, n), (k * 4097, n * 4097)] {
+            let mut room = vec![99; codewords];
+            assert_eq!(code.encode_strips(&vec![0; messages], &mut room), Err(Refusal::Length), "{code:?}");
+            assert!(room.iter().all(|&b| b == 99));
+        }
+        let (mut messages, mut room) = (vec![0; k * 9], vec![99; n * 9]);
+        messages[below(k * 9)] = 13;
+        let refusal = if code.field() == 0 { Err(Refusal::Symbol) } else { Ok(()) };
+        assert_eq!(code.encode_strips(&messages, &mut room), refusal, "{code:?}");
+        assert!(refusal.is_ok() || room.iter().all(|&b| b == 99));
+    }
+}
+
 /// Decode_near refuses what decode refuses and leaves the message and work that decode leaves; its number is that of the
 /// groups with exactly one loss. Of random losses, with anything in the lost slots, and of codewords and changed ones.
 #[test]
