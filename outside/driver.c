@@ -14,13 +14,13 @@
 
 #include "../include/latsefidy.h"
 
-enum { CALLS = 15, BUFFERS = 5, LONGEST = 65600, GUARD = 64, GUARD_BYTE = 0xA5, SHOWN = 20 };
+enum { CALLS = 16, BUFFERS = 5, LONGEST = 65600, GUARD = 64, GUARD_BYTE = 0xA5, SHOWN = 20 };
 
 static const char *const NAMES[CALLS + 1] = {
     "",       "encode", "weights", "repair",     "rebuild",     "view",   "local_pass",
     "decode", "grade",  "record",  "read_sheet", "write_sheet", "report", "preview",
-    "preview_sheet", "decode_near"};
-static const uint32_t COUNTS[CALLS + 1] = {0, 2, 1, 1, 2, 1, 2, 4, 2, 5, 4, 3, 2, 3, 2, 4};
+    "preview_sheet", "decode_near", "encode_strips"};
+static const uint32_t COUNTS[CALLS + 1] = {0, 2, 1, 1, 2, 1, 2, 4, 2, 5, 4, 3, 2, 3, 2, 4, 2};
 
 /* A buffer: what it holds before and after, and the memory that it is lent in. */
 struct buffer {
@@ -161,7 +161,8 @@ static uint64_t answer(void) {
     case 12: return latsefidy_report(BYTES(0), BYTES(1));
     case 13: return refusal_only(latsefidy_preview(CODE, SLOT, BYTES(0), BYTES(1), NUMBERS(2)));
     case 14: return latsefidy_preview_sheet(BYTES(0), BYTES(1));
-    default: return latsefidy_decode_near(CODE, BYTES(0), BYTES(1), BYTES(2), BYTES(3));
+    case 15: return latsefidy_decode_near(CODE, BYTES(0), BYTES(1), BYTES(2), BYTES(3));
+    default: return refusal_only(latsefidy_encode_strips(CODE, BYTES(0), BYTES(1)));
     }
 }
 

@@ -252,6 +252,25 @@ def encode(code, message, codeword):
     return 0
 
 
+def encode_strips(code, messages, codewords):
+    """1 2 3 4 17 5 6, each of all columns before the next; a buffer is its strips end to end"""
+    refusal = code_refusal(code)
+    if refusal:
+        return refusal
+    columns = len(codewords) // code.n
+    if not 1 <= columns <= MOST_STRIP:
+        return 5
+    if len(codewords) != code.n * columns or len(messages) != code.k * columns:
+        return 5
+    if not symbols_fit(code, messages):
+        return 6
+    for c in range(columns):
+        codeword = bytearray(code.n)
+        encode(code, messages[c::columns], codeword)
+        codewords[c::columns] = codeword
+    return 0
+
+
 def lagrange(field, xs, x):
     """For each of xs the value at x of the polynomial that is 1 there and 0 at the others."""
     weights = []

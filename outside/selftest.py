@@ -1,6 +1,6 @@
 """Checks the reference: the paper's worked cases, brute force over small codes of thirteen by both wirings and with short
-last groups, true mates by every codeword and by parity checks, grades, previews and decode_near against decoding, and which
-calls vectors.py makes.
+last groups, true mates by every codeword and by parity checks, grades, previews and decode_near against decoding, encode_strips
+against encode and wrong ways to do it, and which calls vectors.py makes.
 
     python3 outside/selftest.py
 """
@@ -8,8 +8,10 @@ calls vectors.py makes.
 import itertools
 import math
 import random
+import re
 import struct
 from collections import Counter
+from functools import lru_cache
 from pathlib import Path
 
 import reference as ref
@@ -867,6 +869,217 @@ def test_strips():
         out = bytearray(9)
         assert ref.rebuild(code, slot, strips, out) == 0
         assert out == bytes(w[slot] for w in words)
+
+
+def test_encode_strips():
+    """Worked columns, and column by column encode, in every kind of code."""
+    out = bytearray(18)
+    assert ref.encode_strips(N, bytes([1, 1, 1, 2, 1, 3, 1, 4]), out) == 0
+    assert out[0::2] == ONES_WORD and out[1::2] == encoded(N, [1, 2, 3, 4])
+    rng = random.Random(31)
+    for code, columns in itertools.product(vectors.CORNERS, (1, 2, 9)):
+        messages, out = vectors.symbols(rng, code, code.k * columns), bytearray(b"\xaa" * code.n * columns)
+        assert ref.encode_strips(code, messages, out) == 0
+        strips = [messages[m * columns : (m + 1) * columns] for m in range(code.k)]
+        words = [encoded(code, [strip[c] for strip in strips]) for c in range(columns)]
+        assert out == b"".join(bytes(word[p] for word in words) for p in range(code.n))
+
+
+def test_encode_strips_order():
+    """1 2 3 4 17 5 6; a refusal leaves the buffer, and 6 is asked of every column."""
+
+    def refused(code, messages, length):
+        out = bytearray(b"\xaa" * length)
+        refusal = ref.encode_strips(code, messages, out)
+        assert refusal == 0 or out == b"\xaa" * length
+        return refusal
+
+    wrong = [(N._replace(field=2), 1), (N._replace(r=4), 2), (N._replace(n=10), 3), (N._replace(n=0), 3), (N._replace(k=7), 4)]
+    for code, number in [*wrong, (N._replace(wiring=2), 17), (N._replace(k=7, wiring=2), 4), (ELEVEN._replace(wiring=1), 17)]:
+        for messages, length in itertools.product((b"", bytes(12), b"\x0d" * 12), (0, 27, 28)):
+            assert refused(code, messages, length) == number
+    right = {(4 * columns, 9 * columns) for columns in (1, 2, 3, 4096)}
+    lengths = (0, 1, 3, 4, 5, 8, 11, 12, 13, 16384, 16388), (0, 1, 8, 9, 10, 18, 26, 27, 28, 35, 36864, 36873)
+    for a, b in itertools.product(*lengths):
+        assert refused(N, bytes(a), b) == (0 if (a, b) in right else 5)
+        assert a == 0 or refused(N, b"\x0d" * a, b) == (6 if (a, b) in right else 5)
+    for place in range(28):
+        messages = bytearray(28)
+        messages[place] = 13
+        assert refused(N, messages, 63) == 6 and refused(N._replace(field=1), messages, 63) == 0
+
+
+def taken(data, at):
+    """A length, a number given and so many bytes: the bytes in full, and the place behind them."""
+    length, given = struct.unpack_from(">2I", data, at)
+    part = data[at + 8 : at + 8 + given]
+    return (part * (length // given + 1))[:length] if length else b"", at + 8 + given
+
+
+@lru_cache(maxsize=None)
+def strip_calls():
+    """Records of encode_strips as the driver reads them: code, messages, codewords before, answer, codewords after."""
+    rng, calls = random.Random(32), []
+    made = [vectors.make_call(rng, "encode_strips", index) for index in range(3000)]
+    for data, shown, _ in [*made, *vectors.encodes(rng)]:
+        size, call, *code, slot, buffers = struct.unpack_from(">9I", data)
+        assert size == len(data) - 4 and (call, slot, buffers) == (16, 0, 2)
+        messages, at = taken(data, 36)
+        before, at = taken(data, at)
+        refusal, value = struct.unpack_from(">2I", data, at)
+        read, at = taken(data, at + 8)
+        changed, at = taken(data, at)
+        assert at == len(data) and read == b"" and value == 0 and refusal == shown
+        calls.append((Code(*code), messages, before, refusal, changed + before[len(changed) :]))
+    return calls
+
+
+def first_strips(code, messages, before, columns):
+    """What a call answers that takes so many columns of buffers whose lengths do not fit."""
+    out, used = bytearray(before), code.n * columns
+    part = bytearray(before[:used])
+    refusal = ref.encode_strips(code, (messages + bytes(code.k * columns))[: code.k * columns], part)
+    out[:used] = part
+    return refusal, bytes(out)
+
+
+def turned(strips, rows):
+    """Columns one after another, of so many strips one after another."""
+    columns = len(strips) // rows
+    return b"".join(strips[c::columns] for c in range(columns))
+
+
+def wrong_strips(code, messages, before, refusal, after):
+    """What wrong ways to encode strips answer and leave, by name, where all is right else."""
+    legal = ref.code_refusal(code) == 0
+    columns = len(before) // code.n if legal else 0
+    if refusal == 0:
+        n, k, q = code.n, code.k, ref.order(code.field)
+
+        def kept(test):
+            return 0, bytes(a if test(*divmod(i, columns)) else b for i, (a, b) in enumerate(zip(after, before)))
+
+        yield "codewords interleaved", (0, turned(after, n))
+        yield "last column not written", kept(lambda p, c: c < columns - 1)
+        yield "last strip not written", kept(lambda p, c: p < n - 1)
+        yield "columns behind whole tiles not written", kept(lambda p, c: c < columns // 64 * 64 or columns < 64)
+        yield "one column of a tile not written", kept(lambda p, c: c % 64 != 63)
+        yield "columns from 256 on not written", kept(lambda p, c: c < 256)
+        strips = [after[p * columns : (p + 1) * columns] for p in range(n)]
+        yield "columns from 256 on as the first", (0, b"".join((strip[:256] * 16)[:columns] for strip in strips))
+        yield "strips in the other order", (0, b"".join(reversed(strips)))
+        yield "columns in the other order", (0, b"".join(strip[::-1] for strip in strips))
+        yield "added to the buffer", (0, bytes((a + b) % q for a, b in zip(after, before)))
+        if columns == 4096:
+            yield "4,096 columns refused", (5, before)
+        if columns == 1:
+            yield "one column refused", (5, before)
+        if columns <= 9 and n <= 40:
+            out = bytearray(before)
+            ref.encode_strips(code, turned(messages, k), out)  # of one column or k = 1 the same
+            yield "messages interleaved", (0, bytes(out))
+            ref.encode_strips(code, messages[::-1], out)
+            yield "messages in the other order", (0, bytes(out))
+            if ref.short(code) == 0:
+                ref.encode_strips(code._replace(wiring=1 - code.wiring), messages, out)
+                yield "the other wiring", (0, bytes(out))
+    if refusal:
+        yield "buffer cleared under a refusal", (refusal, bytes(len(before)))
+        yield "first byte touched under a refusal", (refusal, bytes(b ^ (i == 0) for i, b in enumerate(before)))
+        yield "last byte touched under a refusal", (refusal, bytes(b ^ (i == len(before) - 1) for i, b in enumerate(before)))
+        yield "no refusal", (0, before)
+    if refusal == 6:
+        bad = next(i % columns for i, s in enumerate(messages) if s > 12)
+        part = bytearray(before)
+        for c in range(bad):
+            word = bytearray(code.n)
+            ref.encode(code, messages[c::columns], word)
+            part[c::columns] = word
+        yield "columns written before 6 is asked of the next", (6, bytes(part))
+        clean = bytes(s % 13 for s in messages)
+        yield "6 not asked", first_strips(code, clean, before, columns)
+        for name, some in (("first", messages[0::columns]), ("last", messages[columns - 1 :: columns])):
+            if max(some) < 13:
+                yield f"6 asked of the {name} column alone", first_strips(code, clean, before, columns)
+        for name, some in (("first", messages[:columns]), ("last", messages[-columns:])):
+            if max(some) < 13:
+                yield f"6 asked of the {name} strip alone", first_strips(code, clean, before, columns)
+    if refusal == 5:
+        if columns == 0:
+            yield "no column accepted", (0, before)
+        if columns > 4096 and len(messages) == code.k * columns and len(before) == code.n * columns:
+            yield "4,097 columns accepted", (0, bytes(len(before)))
+        if columns and len(before) % code.n and len(messages) == code.k * columns:
+            yield "rest of the codewords ignored", first_strips(code, messages, before, min(columns, 9))
+        if columns and len(before) % code.n == 0 and len(messages) > code.k * columns:
+            yield "rest of the messages ignored", first_strips(code, messages, before, min(columns, 9))
+        if len(messages) // code.k < columns <= 4096 and len(messages) % code.k == 0:
+            yield "length by the messages", first_strips(code, messages, before, min(len(messages) // code.k, 9))
+        if any(s >= ref.order(code.field) for s in messages):
+            yield "6 before 5", (6, before)
+    if refusal in (1, 2, 3, 4, 17) and (not before or not messages):
+        yield "5 before the code's questions", (5, before)
+    if refusal == 17:
+        plain = code._replace(wiring=0)
+        if len(before) <= 9 * plain.n:
+            yield "17 not asked", first_strips(plain, bytes(messages), before, len(before) // plain.n)
+
+
+def test_wrong_strips():
+    """The calls that vectors.py makes tell every wrong way to encode strips from the right one."""
+    caught, same = Counter(), Counter()
+    for call in strip_calls():
+        for name, got in wrong_strips(*call):
+            (same if got == call[3:] else caught)[name] += 1
+    for name in {**caught, **same}:
+        assert caught[name] > (1 if "4,09" in name else 4), (name, caught[name], same[name])
+    assert len(caught) == 33, len(caught)
+
+
+def test_strip_vectors():
+    """vectors.py makes encodes of strips of every locality, length and kind of code, with every answer, and faults of 5 and 6
+    beside others."""
+    seen, lengths = Counter(), set()
+    for code, messages, before, refusal, after in strip_calls():
+        seen[refusal] += 1
+        if refusal in (1, 2, 3, 4, 17):
+            seen["empty"] += not before
+            continue
+        columns = len(before) // code.n
+        kind = "wired" if code.wiring else "short" if ref.short(code) else "whole"
+        if refusal == 0:
+            seen[kind, code.field] += 1
+            seen["large"] += code.n >= 250
+            seen["large and long"] += code.n >= 250 and columns > 256
+            lengths |= {(code.field, code.r, columns), (kind, code.field, columns)}
+        if refusal == 5:
+            whole = len(before) == code.n * columns, len(messages) == code.k * columns
+            seen["5", whole, min(columns, 1) + (columns > 4096)] += 1
+            seen["5 and 6"] += any(s >= ref.order(code.field) for s in messages)
+        if refusal == 6:
+            bad = [i % columns for i, s in enumerate(messages) if s > 12]
+            seen["6", len(bad), bad[0] == 0, bad[0] == columns - 1] += 1
+    assert {number for number in seen if isinstance(number, int)} == vectors.ANSWERS["encode_strips"]
+    assert lengths >= {(f, r, columns) for f, r in vectors.LOCALITIES for columns in vectors.ENCODED}
+    assert lengths >= {(kind, f, columns) for kind in ("whole", "short") for f in (0, 1) for columns in vectors.ENCODED}
+    some = (1, 2, 7, 8, 9, 63, 64, 255, 256, 257, 300, 512, 4096)
+    assert lengths >= {("wired", f, columns) for f in (0, 1) for columns in some}
+    assert all(seen[kind, f] > 50 for kind in ("whole", "wired", "short") for f in (0, 1)) and seen["large"] > 20
+    assert seen["large and long"] > 2 and seen["5 and 6"] > 5 and seen["empty"] > 5
+    assert all(seen["5", (True, True), span] for span in (0, 2))  # no column, and 4,097
+    assert all(seen["5", whole, 1] > 5 for whole in ((True, False), (False, True), (False, False))), seen
+    assert all(seen["6", 1, first, last] for first, last in ((True, False), (False, True), (False, False)))
+
+
+def test_driver_numbers():
+    """The driver's names and counts of buffers are those of vectors.py, in its order."""
+    text = (Path(__file__).parent / "driver.c").read_text()
+    names, counts = (re.search(rf"{word}\[CALLS \+ 1\] = {{(.*?)}};", text, re.DOTALL).group(1) for word in ("NAMES", "COUNTS"))
+    assert re.findall(r'"(\w*)"', names) == ["", *vectors.CALLS] and vectors.CALLS[15] == "encode_strips"
+    assert [int(count) for count in counts.split(",")] == [0, *map(len, vectors.BUFFERS.values())]
+    called = dict(re.findall(r"case (\d+): return .*?latsefidy_(\w+)\(", text.replace("default:", f"case {len(vectors.CALLS)}:")))
+    assert called.pop("1") == "encode" and [*called.values()] == vectors.CALLS[1:]
+    assert f"CALLS = {len(vectors.CALLS)}," in text and f"LONGEST = {vectors.LONGEST}," in text
 
 
 def test_lengths():

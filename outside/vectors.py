@@ -5,7 +5,8 @@
 The calls are valid, damaged and refused, with one fault or with several at once, over both fields,
 both wirings, short last groups and the corner codes. Besides come good rebuilds of every locality r of both fields at
 every length where the strip kernel takes another way, and in short last groups with every number of mates; and where k is
-below r rebuilds with one column that no codeword has, at every length and at every place; unless "lengths" is among the
+below r rebuilds with one column that no codeword has, at every length and at every place; and good encodes of strips of every
+locality at every length about the edges of tiles, of large codes and of the longest strips; unless "lengths" is among the
 names. A table of how often each answer came, and each grade, goes to standard error; of previews each grade before and
 after; of local passes how many mended groups, left groups, and did both; of decode_near the same under each answer, and under
 0 whether none, one or many were mended.
@@ -15,7 +16,7 @@ Format: a row of records and then the number 0. Every number is 32 bits, high by
     size        bytes of this record after this number; at least 40
     call        1 encode, 2 weights, 3 repair, 4 rebuild, 5 view, 6 local_pass, 7 decode, 8 grade,
                 9 record, 10 read_sheet, 11 write_sheet, 12 report, 13 preview, 14 preview_sheet,
-                15 decode_near
+                15 decode_near, 16 encode_strips
     field r n k wiring slot    the call's numbers; 0 where it takes none
     buffers     how many buffers follow: those of the C function, in its order
       length given bytes   for each: before the call it has this length, and its byte i is the
@@ -54,6 +55,7 @@ BUFFERS = {
     "preview": ("marks", "work", "preview"),
     "preview_sheet": ("input", "text"),
     "decode_near": ("word", "marks", "message", "work"),
+    "encode_strips": ("messages", "codewords"),
 }
 CALLS = list(BUFFERS)
 WIDE = ("record", "code", "preview")  # buffers of 32-bit numbers
@@ -75,6 +77,7 @@ QUESTIONS = {
     "preview": (1, 2, 3, 4, 17, 5, 7, 8),
     "preview_sheet": (1, 2, 3, 4, 17, 5, 6, 11, 12, 13, 14, 15),
     "decode_near": (1, 2, 3, 4, 17, 5, 6, 8),
+    "encode_strips": (1, 2, 3, 4, 17, 5, 6),
 }
 
 # Every number that each call can answer; the record's outcome and the texts count too.
@@ -133,6 +136,11 @@ LARGE = [code for code in CORNERS if code.n >= 250]
 LOCALITIES = [(0, r) for r in (1, 2, 3, 5, 11)] + [(1, r) for r in (2, 4, 14, 16)]
 LENGTHS = (1, 2, 15, 16, 17, 63, 64, 65, 127, 128, 129, 191, 192, 193, 255, 256, 257, 300, 4095, 4096)
 SHORT_LENGTHS = (1, 17, 64, 129, 257)  # of strips in short last groups
+# lengths of strips that are encoded: few columns, about one tile, and more; of large codes; and of the longest strips
+FEW, TILE, MORE = (1, 2, 7, 8, 9), (63, 64, 65), (255, 256, 257, 300, 512)
+ENCODED = (*FEW, 15, 16, 17, *TILE, 127, 128, 129, 191, 192, 193, *MORE, 600)
+LARGE_ENCODED = (1, 8, 9)
+LONG_ENCODED = (Code(0, 2, 9, 4, 1), Code(0, 5, 9, 7), Code(1, 4, 10, 3), Code(1, 2, 9, 6, 1), Code(1, 4, 8, 5))
 SWEPT = (Code(1, 4, 10, 2), Code(1, 16, 34, 8, 1), Code(1, 4, 8, 3), Code(0, 3, 6, 2), Code(0, 11, 12, 5))
 SWEPT_LENGTH = 145  # a column that no codeword has stands at every place of strips of that length, by these codes
 WIRED = 0.45  # the share of codes that have wiring 1
@@ -142,6 +150,7 @@ TOLD = 0.6  # of the codes that groups are mended by, the share that is to have 
 SOLVED = 0.1  # of the words that are decoded, the share that is noise
 LARGEST = 2**32 - 1
 LONGEST = 65600  # bytes of a buffer
+MOST_TERMS = 60000  # n k L of most encodes of strips, since the reference is slow
 TAILS = (1, 3, 4, 5)  # bytes after the longest sheet; the report and the preview read the first four
 STEPS = [(0, 1)] + [(a, b) for a in range(1, 5) for b in range(a, 5)]  # the grades before a preview's slot is lost and after
 TITLES = {"grade": "grades", "preview": "previews", "local_pass": "passes", "decode_near": "nears"}  # of rows that count values
@@ -560,6 +569,9 @@ class Draft:
         rng, code = self.rng, self.code
         if kind == "message" and self.name == "encode":
             return Buffer(symbols(rng, code, code.k))
+        if kind == "messages":
+            self.columns = self.columns or pick_encoded(rng, code)
+            return Buffer(symbols(rng, code, code.k * self.columns))
         if kind == "mates":
             return Buffer(pick_strips(rng, code, self.slot, 1))
         if kind == "strips":
@@ -582,6 +594,7 @@ class Draft:
         return {
             "message": code.k,
             "codeword": code.n,
+            "codewords": code.n * self.columns,
             "weights": 16,
             "strip": self.columns,
             "work": rng.choice([used] * 20 + [used + rng.randint(1, 40)] * 19 + [61455]),
@@ -608,6 +621,16 @@ def pick_columns(rng, code):
     if fate < 0.004:
         return 4096
     return rng.randint(1, 600) if fate < 0.02 else rng.randint(1, 9)
+
+
+def pick_encoded(rng, code):
+    """The length of strips that are encoded: mostly few columns or about a tile; a long one of a large code is rare."""
+    fate = rng.random()
+    if fate < 0.004 and code.n <= 12:
+        return 4096
+    lengths = (600,) if fate < 0.01 else MORE if fate < 0.2 else TILE if fate < 0.45 else FEW if fate < 0.9 else range(1, 70)
+    most = LONGEST // code.n if fate < 0.02 else max(9, MOST_TERMS // (code.n * code.k))
+    return rng.choice([v for v in lengths if v <= most] or FEW)
 
 
 def sheet_rows(code, word, marks):
@@ -677,6 +700,8 @@ def fault_wired(rng, draft):
 def fault_length(rng, draft):
     """A wrong length of one buffer."""
     kinds, base = list(draft.buffers), draft.base
+    if draft.name == "encode_strips" and rng.random() < 0.6:
+        return fault_strips(rng, draft)
     kind = rng.choice(kinds[1:] if draft.name in READERS else kinds)
     have = len(draft.buffers[kind].data)
     used = base.n * (base.k + 1)
@@ -698,6 +723,20 @@ def fault_length(rng, draft):
         lengths += [count * (draft.columns or 1) for count in (base.r, ref.short(base) - 1)] * 3
     lengths = [v for v in lengths if v != have and 0 <= v <= LONGEST]
     draft.buffers[kind] = draft.buffers[kind].resized(rng.choice(lengths))
+
+
+def fault_strips(rng, draft):
+    """Lengths of both buffers that are wrong together: no column or 4,097; n L or k L alone with one more or less; with a
+    remainder; or n and k exchanged."""
+    n, k, columns = draft.base.n, draft.base.k, draft.columns
+    pairs = [(0, 0), (0, rng.randrange(1, n)), (4097 * k, 4097 * n), (4097 * k, 4097 * n)]
+    pairs += [(k * columns, n * (columns + 1)), (k * (columns + 1), n * columns), (k * (columns - 1), n * columns)]
+    pairs += [(k * columns, n * columns + rng.randrange(1, n)), (k * columns, n * columns + n - 1)]
+    pairs += [(k * (columns - 1), n * columns - 1), (n * columns, k * columns), (n * columns, n * columns)]
+    pairs += [(k * columns + rng.randrange(1, k + 1), n * columns), (k, n * columns)] if columns > 1 else []
+    messages, codewords = rng.choice([pair for pair in pairs if max(pair) <= LONGEST])
+    draft.buffers["messages"] = draft.buffers["messages"].resized(messages)
+    draft.buffers["codewords"] = draft.buffers["codewords"].resized(codewords)
 
 
 def put(draft, kind, place, value):
@@ -723,6 +762,8 @@ def fault_symbol(rng, draft):
         places = [p for g in singles for p in ref.members(base, g) if not draft.marks[p]]
     elif kind == "word":
         places = [p for p in range(base.n) if not draft.marks[p]]
+    elif kind == "messages":
+        places = rng.choice([places[:1], places[-1:], places, places])
     if places:
         put(draft, kind, rng.choice(places), value)
 
@@ -944,6 +985,27 @@ def swept_rebuilds(rng):
         yield foreign_rebuild(rng, code, SWEPT_LENGTH, told_slot(rng, code), place)
 
 
+def encodes(rng):
+    """Good encodes of strips: of every locality and length a whole code, wired or not in turn, and a short one; of large codes
+    some lengths, at times one above 256; and the longest strips."""
+    for turn, ((field, r), columns) in enumerate(itertools.product(LOCALITIES, ENCODED)):
+        groups = rng.randint(1, (12 if field == 0 else 34) // (r + 1))
+        yield good_encode(rng, Code(field, r, *pick_size(rng, r, groups, r + 1), turn % 2), columns)
+        if r > 1:
+            yield good_encode(rng, Code(field, r, *pick_size(rng, r, groups, rng.randint(2, r))), columns)
+    for code, columns in itertools.product(LARGE, LARGE_ENCODED):
+        yield good_encode(rng, code, columns)
+    for code, columns in itertools.product(LONG_ENCODED, (4095, 4096)):
+        yield good_encode(rng, code, columns)
+    wide = (Code(1, 14, 255, rng.randint(15, 60), 1), Code(1, 2, 255, rng.randint(29, 36)), Code(1, 4, 255, rng.randint(61, 68)))
+    for code in (Code(1, 16, 255, 240), *wide):
+        yield good_encode(rng, code, 257)
+
+
+def good_encode(rng, code, columns):
+    return Draft(rng, "encode_strips", code, columns).finished()
+
+
 def main():
     seed, count, left_out = sys.argv[1], int(sys.argv[2]), sys.argv[3:]
     names = [name for name in CALLS if name not in left_out]
@@ -958,6 +1020,9 @@ def main():
     for data, number, _ in rebuilds(rng) if "lengths" not in left_out else ():
         out.write(data)
         seen["rebuild", number] += 1
+    for data, number, _ in encodes(rng) if not {"lengths", "encode_strips"} & set(left_out) else ():
+        out.write(data)
+        seen["encode_strips", number] += 1
     out.write(numbers(0))
     out.flush()
     for name in names:
