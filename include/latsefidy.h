@@ -72,8 +72,8 @@ extern "C" {
 
 #define LATSEFIDY_VERSION_MAJOR 0
 #define LATSEFIDY_VERSION_MINOR 6
-#define LATSEFIDY_VERSION_PATCH 1
-#define LATSEFIDY_VERSION "0.6.1"
+#define LATSEFIDY_VERSION_PATCH 2
+#define LATSEFIDY_VERSION "0.6.2"
 
 #define LATSEFIDY_WEIGHTS 16        /* length of a weights buffer */
 #define LATSEFIDY_STRIP_MOST 4096   /* most symbols of one strip */
