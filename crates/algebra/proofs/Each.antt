@@ -19,7 +19,7 @@ module _ {A : Type 0} where
   each_intro P [] h = tt
   each_intro P (x ∷ xs) h = (h x here, each_intro P xs (λ y i. h y (there i)))
 
-  pub each_at : (P : A → Type 0) {xs : List A} {x : A} → Each P xs → In x xs → P x
+  pub each_at : (P : A → Type 0) {x : A} {xs : List A} → Each P xs → In x xs → P x
   each_at P e here = e.0
   each_at P e (there i) = each_at P e.1 i
 

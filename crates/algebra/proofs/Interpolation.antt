@@ -78,7 +78,7 @@ module _ (F : Field) (pt : ℕ → F.ring.El) where
       (weighted_poly os v ms e.1)
 
   -- a weight at another place's point is zero, and at its own one
-  pub weigh_other : (z : El) (m : ℕ) {os : List ℕ} {s : ℕ} → In s os → s ≢ m → weigh F pt (pt s) z m os ≡ 𝟘
+  pub weigh_other : (z : El) (m : ℕ) {s : ℕ} {os : List ℕ} → In s os → s ≢ m → weigh F pt (pt s) z m os ≡ 𝟘
   unfolding weigh
   weigh_other z m {s = s} (here {xs = os}) h = go (eqb s m) (same? s m)
     where
