@@ -1,4 +1,6 @@
 // Which codes are accepted: questions 1 to 4 and 17 on the numbers of a code, and the shape that they mean.
+#![tactic(auto)]
+
 ghost use Rattle.std.specs.Prelude.{◌≡◌, ◌≢◌, ◌+◌, ◌-◌, ◌%◌, ◌≤◌, eqb};
 ghost use Rattle.field.specs.Field.{q};
 ghost use Rattle.code.specs.Question.{ask};

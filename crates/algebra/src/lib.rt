@@ -1,1 +1,3 @@
 // Mathematics over an abstract field: definitions in specs/, lemmas in proofs/. No code.
+#![tactic(auto)]
+

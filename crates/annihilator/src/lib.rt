@@ -1,4 +1,6 @@
 // Polynomials that are 0 at the kept places of a word and have no coefficient at given exponents, the gaps. Knows no code.
+#![tactic(auto)]
+
 ghost use Rattle.std.specs.Prelude.{◌≡◌, not, ℕ, ◌+◌, ◌*◌, ◌≤◌, ◌<◌, eqb, length};
 ghost use Rattle.algebra.specs.Sequence.{at, count};
 ghost use Rattle.algebra.specs.Writing.{Written};

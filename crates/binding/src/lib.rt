@@ -1,4 +1,6 @@
 // Answers in the forms that C takes: in one number, and in buffers in place of arrays and structs.
+#![tactic(auto)]
+
 ghost use Rattle.std.specs.Prelude.{◌≡◌, length};
 ghost use Rattle.binding.specs.Pack.{unpacked, code_row};
 ghost use Rattle.binding.specs.Fill.{WeightsFill};

@@ -1,4 +1,6 @@
 // Bytes into bit planes and back: 256 columns of a strip as eight planes of 32 bytes.
+#![tactic(auto)]
+
 ghost use Rattle.std.specs.Prelude.{◌≡◌, ◌+◌, ◌≤◌, ◌<◌, length};
 ghost use Rattle.bit_planes.specs.Exchange.{Picked, Exchanged};
 ghost use Rattle.bit_planes.specs.Plane.{Transposed, Turned};

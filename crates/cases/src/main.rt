@@ -1,4 +1,6 @@
 // Runs the paper's cases and corner codes on the calls, and prints what they answer.
+#![tactic(auto)]
+
 
 mod calls;
 mod corners;

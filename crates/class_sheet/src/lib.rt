@@ -1,4 +1,6 @@
 // The sheet that a class works on paper, of an input: the word wired or not, r, n, k and k message symbols, over the field of thirteen.
+#![tactic(auto)]
+
 ghost use Rattle.std.specs.Prelude.{◌≡◌, ◌≤◌, length};
 ghost use Rattle.code.specs.Laws.{Decodable};
 
@@ -6,7 +8,7 @@ use code::{Code, Shape};
 use console::{text, words};
 
 // What stands in front of the text: the sheet (status 0), or a sentence on what is wrong with the input (status 1).
-#[derive(Drop)]
+#[derive(Clone, Copy)]
 pub struct Written {
     pub status: u32,
     pub len: usize,

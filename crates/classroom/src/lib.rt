@@ -1,4 +1,6 @@
 // The classroom program: reads r, n, k and a message from standard input and writes the sheet that a class works on paper.
+#![tactic(auto)]
+
 ghost use Rattle.std.specs.Prelude.{◌≤◌};
 
 // The exit status of the program on an input that was read: 0 and the sheet, 1 and a sentence, or 2 where writing fails.

@@ -1,4 +1,6 @@
 // Columns rebuilt: weights and symbols in, sums of weight times symbol out. No slot and no point comes here, and no crate that knows them is named.
+#![tactic(auto)]
+
 ghost use Rattle.std.specs.Prelude.{◌≡◌, ◌+◌, ◌*◌, ◌≤◌, length, take};
 ghost use Rattle.algebra.specs.Sequence.{at, tabulate};
 ghost use Rattle.field.specs.Field.{plus, times};

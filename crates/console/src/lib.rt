@@ -1,5 +1,7 @@
 // What the programs share: standard input and output, where a read or write that fails is told apart, said on standard error and
 // gives exit status 2; decimal numbers read from input (words); text put together in a buffer (text).
+#![tactic(auto)]
+
 ghost use Rattle.std.specs.Prelude.{◌≤◌, ◌≡◌, length};
 ghost use Rattle.io.specs.Counts.{IsPrefixLen};
 
@@ -7,7 +9,7 @@ pub mod text;
 pub mod words;
 
 // How many bytes were read, and whether a read failed.
-#[derive(Drop)]
+#[derive(Clone, Copy)]
 pub struct Input {
     pub failed: bool,
     pub len: usize,

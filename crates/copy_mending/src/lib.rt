@@ -1,4 +1,6 @@
 // The local pass on a copy: what a word and its marks become where each group that can mends itself, with the caller's left as they are.
+#![tactic(auto)]
+
 ghost use Rattle.std.specs.Prelude.{◌≡◌, length};
 ghost use Rattle.field.specs.Table.{Powers, Logs};
 ghost use Rattle.code.specs.Laws.{Decodable};

@@ -1,4 +1,6 @@
 // Copies between lent buffers, and clears them.
+#![tactic(auto)]
+
 ghost use Rattle.std.specs.Prelude.{◌≡◌, ◌+◌, ◌≤◌, length, replicate};
 ghost use Rattle.algebra.specs.Sequence.{at};
 ghost use Rattle.algebra.specs.Writing.{Laid};

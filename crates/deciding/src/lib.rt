@@ -1,4 +1,6 @@
 // Whether the kept slots decide every message: whether no codeword but 0 is 0 at all of them. Groups that mend themselves are taken first.
+#![tactic(auto)]
+
 ghost use Rattle.std.specs.Prelude.{◌≡◌, not, ◌+◌, ◌*◌, ◌≤◌, ◌<◌, length, replicate};
 ghost use Rattle.field.specs.Table.{Powers, Logs};
 ghost use Rattle.code.specs.Codeword.{guarantee};

@@ -1,4 +1,6 @@
 // Decoding: the questions, then the message that alone agrees with the kept symbols.
+#![tactic(auto)]
+
 ghost use Rattle.std.specs.Prelude.{◌≡◌, ◌*◌, ◌+◌, length};
 ghost use Rattle.code.specs.Family.{single, code_refusal};
 ghost use Rattle.code.specs.Verdict.{Verdict};

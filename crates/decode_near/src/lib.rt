@@ -1,4 +1,6 @@
 // Decoding that mends near home first: the local pass on a copy, then the message that alone agrees with what the copy keeps.
+#![tactic(auto)]
+
 ghost use Rattle.std.specs.Prelude.{◌≡◌, length, replicate};
 ghost use Rattle.field.specs.Table.{Powers, Logs};
 ghost use Rattle.code.specs.Family.{single, code_refusal};

@@ -1,4 +1,6 @@
 // Encode of strips: column by column the codeword of the column of the message strips.
+#![tactic(auto)]
+
 ghost use Rattle.std.specs.Prelude.{◌≡◌, true, ◌*◌, ◌≤◌, length};
 ghost use Rattle.algebra.specs.Sequence.{all_below};
 ghost use Rattle.field.specs.Field.{q};

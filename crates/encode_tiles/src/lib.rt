@@ -1,5 +1,7 @@
 // Encode of strips of bytes on tiles of 256 columns, group by group: the message strips are folded into each group's coefficients, and these give
 // the values at its points.
+#![tactic(auto)]
+
 ghost use Rattle.std.specs.Prelude.{◌≡◌, true, ◌*◌, ◌≤◌, length};
 ghost use Rattle.algebra.specs.Sequence.{all_below};
 ghost use Rattle.field.specs.Field.{q};

@@ -1,4 +1,6 @@
 // The calls on marks alone: how many slots are lost, and the first group with more losses than it stands.
+#![tactic(auto)]
+
 ghost use Rattle.std.specs.Prelude.{◌≡◌};
 ghost use Rattle.code.specs.Family.{single, code_refusal};
 ghost use Rattle.code.specs.Laws.{Plain};

@@ -1,4 +1,6 @@
 // The values of a row's polynomial at the points of the slots, group by group.
+#![tactic(auto)]
+
 ghost use Rattle.std.specs.Prelude.{◌≡◌, ◌<◌, length};
 ghost use Rattle.field.specs.Table.{Powers, Logs};
 ghost use Rattle.code.specs.Shape.{groups};

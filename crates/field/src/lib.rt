@@ -1,1 +1,3 @@
 // The two fields: definitions in specs/, laws in proofs/. No code.
+#![tactic(auto)]
+

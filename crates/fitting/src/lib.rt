@@ -1,4 +1,6 @@
 // Decoding within the guarantee, of whole groups: the one message that fits is read off the interpolation polynomial of the kept symbols.
+#![tactic(auto)]
+
 ghost use Rattle.std.specs.Prelude.{◌≡◌, ◌+◌, ◌*◌, ◌≤◌, ◌<◌, length};
 ghost use Rattle.field.specs.Table.{Powers, Logs};
 ghost use Rattle.code.specs.Shape.{size, groups, room};

@@ -1,4 +1,6 @@
 // The generator matrix, row by row: a slot's row has the values of the basis polynomials at its point.
+#![tactic(auto)]
+
 ghost use Rattle.std.specs.Prelude.{◌≡◌, ◌⊎◌, ◌<◌, ◌≤◌, length};
 ghost use Rattle.algebra.specs.Writing.{Written};
 ghost use Rattle.field.specs.Field.{q, power};

@@ -1,4 +1,6 @@
 // The grade of a stripe by its marks, in a lent work buffer, and the call that answers it.
+#![tactic(auto)]
+
 ghost use Rattle.std.specs.Prelude.{◌≡◌, ◌+◌, ◌*◌, ◌≤◌, length, replicate};
 ghost use Rattle.code.specs.Erasure.{lost_number, first_broken, grade};
 ghost use Rattle.code.specs.Family.{single, code_refusal};
@@ -10,7 +12,7 @@ ghost use Rattle.grading.specs.Step.{counted, graded, lengths_refusal, Marked};
 use code::{Answer, Code, Shape};
 
 // What marks say of a stripe: the number lost, the grade, and the first group with more losses than it stands, 255 if none.
-#[derive(Drop)]
+#[derive(Clone, Copy)]
 pub struct Graded {
     pub lost: u32,
     pub grade: u32,

@@ -1,4 +1,6 @@
 // The message strips folded into the coefficients of the groups, 256 columns at a time.
+#![tactic(auto)]
+
 ghost use Rattle.std.specs.Prelude.{◌≡◌, List, ℕ, ◌+◌, ◌*◌, ◌≤◌, ◌<◌, length};
 ghost use Rattle.code.specs.Shape.{groups};
 ghost use Rattle.lanes.specs.Lane.{shown};

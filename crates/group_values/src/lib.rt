@@ -1,4 +1,6 @@
 // The values of the groups' polynomials, written to the strips of their slots, 256 columns at a time.
+#![tactic(auto)]
+
 ghost use Rattle.std.specs.Prelude.{◌≡◌, List, ℕ, ◌+◌, ◌*◌, ◌≤◌, ◌<◌, length};
 ghost use Rattle.code.specs.Shape.{size, groups};
 ghost use Rattle.lanes.specs.Lane.{shown};

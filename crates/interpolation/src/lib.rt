@@ -1,4 +1,6 @@
 // Newton's interpolation: the polynomial through the places of a word that are not lost. Rows are worked on in whole blocks of 64 bytes.
+#![tactic(auto)]
+
 ghost use Rattle.std.specs.Prelude.{◌≡◌, ◌≢◌, List, ℕ, ◌+◌, ◌≤◌, ◌<◌, eqb, length};
 ghost use Rattle.algebra.specs.Sequence.{at, count};
 ghost use Rattle.algebra.specs.Writing.{Written};

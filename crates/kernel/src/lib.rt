@@ -1,4 +1,6 @@
 // The sum of weight times symbol over each column of strips of bytes: by tiles, and for the two weights of r = 2 by one product a column.
+#![tactic(auto)]
+
 ghost use Rattle.std.specs.Prelude.{◌≡◌, true, ℕ, ◌+◌, ◌*◌, ◌≤◌, ◌<◌, length};
 ghost use Rattle.algebra.specs.Sequence.{at, tabulate};
 ghost use Rattle.field.specs.Field.{times_from};

@@ -1,4 +1,6 @@
 // Lanes of a tile of bit planes: a byte of each plane, 32 bytes apart.
+#![tactic(auto)]
+
 ghost use Rattle.std.specs.Prelude.{◌≡◌, ◌+◌, ◌<◌, length};
 ghost use Rattle.lanes.specs.Lane.{lane, PutLane};
 

@@ -1,4 +1,6 @@
 // The C library: each call under its C name, with the code as five numbers.
+#![tactic(auto)]
+
 ghost use Rattle.std.specs.Prelude.{take};
 ghost use Rattle.code.specs.Answer.{Answers};
 ghost use Rattle.code.specs.Family.{code_of, single, code_refusal};

@@ -1,4 +1,6 @@
 // Where the symbols of a code stand: repair groups, slots, mates and evaluation points. Crate acceptance alone divides by the group size besides.
+#![tactic(auto)]
+
 ghost use Rattle.std.specs.Prelude.{◌≡◌, ◌+◌, ◌*◌, ◌-◌, ◌/◌, ◌%◌, ◌≤◌, ◌<◌, length};
 ghost use Rattle.algebra.specs.Sequence.{at};
 ghost use Rattle.field.specs.Table.{Powers};

@@ -1,4 +1,6 @@
 // Messages of a code with a short last group as rows of coefficients in blocks of r: the polynomial that block j of a row goes with is g to the power j.
+#![tactic(auto)]
+
 ghost use Rattle.std.specs.Prelude.{◌≡◌, true, false, ◌+◌, ◌≤◌, ◌<◌, length, drop};
 ghost use Rattle.algebra.specs.Sequence.{at, all_below};
 ghost use Rattle.algebra.specs.Writing.{Written};

@@ -1,4 +1,6 @@
 // The lines of the sheet that a class works on paper.
+#![tactic(auto)]
+
 ghost use Rattle.std.specs.Prelude.{◌<◌, ◌≤◌, length};
 ghost use Rattle.code.specs.Laws.{Placed, Mending};
 ghost use Rattle.code.specs.Shape.{size, groups};

@@ -1,4 +1,6 @@
 // Linear equations over a field, solved in a lent buffer. Rows 0 to k - 1 are in echelon form; row k is the newcomer.
+#![tactic(auto)]
+
 ghost use Rattle.std.specs.Prelude.{◌≡◌, ℕ, ◌+◌, ◌*◌, ◌<◌, ◌≤◌, length};
 ghost use Rattle.field.specs.Field.{q, minus, inverse};
 ghost use Rattle.field.specs.Table.{Powers, Logs};

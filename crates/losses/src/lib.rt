@@ -1,4 +1,6 @@
 // What marks say of a stripe: its losses and its first broken group; and how many losses it stands for certain.
+#![tactic(auto)]
+
 ghost use Rattle.std.specs.Prelude.{◌≡◌, length};
 ghost use Rattle.code.specs.Codeword.{guarantee};
 ghost use Rattle.code.specs.Erasure.{lost_number, first_broken};

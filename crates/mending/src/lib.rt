@@ -1,5 +1,7 @@
 // Groups that have lost one slot mend themselves: the repair of one group in its span of a word, and of every group. A group is left as it
 // is where no codeword has its kept symbols.
+#![tactic(auto)]
+
 ghost use Rattle.std.specs.Prelude.{◌≡◌, ◌<◌, length};
 ghost use Rattle.field.specs.Table.{Powers, Logs};
 ghost use Rattle.code.specs.Shape.{groups};

@@ -1,4 +1,6 @@
 // Parity checks of the symbols at a slot's mates: their sums are 0 just where some codeword has these symbols.
+#![tactic(auto)]
+
 ghost use Rattle.std.specs.Prelude.{◌≡◌, ◌+◌, ◌≤◌, ◌<◌, length};
 ghost use Rattle.algebra.specs.Writing.{Laid};
 ghost use Rattle.field.specs.Table.{Powers, Logs};

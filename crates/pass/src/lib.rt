@@ -1,4 +1,6 @@
 // The local pass: groups that have lost one slot mend themselves, where some codeword has the kept symbols.
+#![tactic(auto)]
+
 ghost use Rattle.std.specs.Prelude.{◌≡◌, ◌<◌, length};
 ghost use Rattle.code.specs.Shape.{groups};
 ghost use Rattle.code.specs.Family.{single, code_refusal};

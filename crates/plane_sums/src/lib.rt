@@ -1,4 +1,6 @@
 // Sums of weight times symbol over tiles of bit planes: tables of the sixteen sums of four tiles, and Horner's rule over the bits of the weights.
+#![tactic(auto)]
+
 ghost use Rattle.std.specs.Prelude.{◌≡◌, ℕ, ◌+◌, ◌*◌, ◌-◌, ◌≤◌, ◌<◌, length};
 ghost use Rattle.algebra.specs.Sequence.{at};
 ghost use Rattle.algebra.specs.Writing.{Laid};

@@ -1,5 +1,7 @@
 // The preview program: reads a stripe sheet from standard input and writes what would follow the loss of each kept slot. A refused sheet gets the
 // line of its refusal.
+#![tactic(auto)]
+
 ghost use Rattle.std.specs.Prelude.{◌≤◌};
 
 // The program's exit status: 0, or 2 where reading or writing fails.

@@ -1,4 +1,6 @@
 // The preview as C takes it: three numbers in a buffer.
+#![tactic(auto)]
+
 ghost use Rattle.preview_binding.specs.Preview.{PreviewFills};
 
 use code::Code;

@@ -1,4 +1,6 @@
 // The lines of a preview: for each kept slot what would follow its loss, and the slots whose loss leaves the message decided.
+#![tactic(auto)]
+
 ghost use Rattle.std.specs.Prelude.{cond, [], ◌+◌, ◌≤◌, ◌<◌, eqb, length};
 ghost use Rattle.grading.specs.Step.{Marked};
 ghost use Rattle.text.specs.Text.{spaced, Puts};
@@ -8,7 +10,7 @@ ghost use Rattle.preview_lines.specs.Step.{SlotsPut};
 use code::Shape;
 
 // The places behind the lines and behind the safe slots.
-#[derive(Drop)]
+#[derive(Clone, Copy)]
 struct Ends {
     lines: usize,
     safe: usize,

@@ -1,4 +1,6 @@
 // The preview of a sheet: the lines of its stripe, or the refusal.
+#![tactic(auto)]
+
 ghost use Rattle.std.specs.Prelude.{◌≤◌, length, take};
 ghost use Rattle.text.specs.Text.{Puts};
 ghost use Rattle.preview_sheet.specs.Text.{preview_text, SheetPreviewSays};

@@ -1,4 +1,6 @@
 // The preview: what would follow the loss of one slot more.
+#![tactic(auto)]
+
 ghost use Rattle.std.specs.Prelude.{◌≡◌, ◌<◌, length};
 ghost use Rattle.code.specs.Family.{single, code_refusal};
 ghost use Rattle.code.specs.Laws.{Decodable};
@@ -10,7 +12,7 @@ use code::{Code, Shape};
 
 // A refusal number, and what would follow: the number lost, the grade, and the first group with more losses than it stands, 255 if none. All
 // are 0 on a refusal.
-#[derive(Drop)]
+#[derive(Clone, Copy)]
 pub struct Previewed {
     pub refusal: u32,
     pub lost: u32,

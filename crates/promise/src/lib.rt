@@ -1,4 +1,6 @@
 // Demand 3 about the calls themselves: encode, lose, and get back.
+#![tactic(auto)]
+
 ghost use Rattle.std.specs.Prelude.{◌≡◌, false, cond, ◌<◌, length};
 ghost use Rattle.algebra.specs.Sequence.{at};
 ghost use Rattle.code.specs.Shape.{mates};

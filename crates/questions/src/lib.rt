@@ -1,4 +1,6 @@
 // The questions that calls ask one after another, and the tests of marks and symbols behind them.
+#![tactic(auto)]
+
 ghost use Rattle.std.specs.Prelude.{◌≡◌, ℕ, ◌+◌, ◌*◌, ◌≤◌, ◌<◌, length};
 ghost use Rattle.algebra.specs.Sequence.{all_below};
 ghost use Rattle.code.specs.Question.{ask, or_ask};

@@ -1,4 +1,6 @@
 // The record of a stripe as C takes it: ten numbers in a buffer.
+#![tactic(auto)]
+
 ghost use Rattle.std.specs.Prelude.{◌≡◌, length};
 ghost use Rattle.record_binding.specs.Record.{numbers_of, RecordFills};
 

@@ -1,4 +1,6 @@
 // The stripe's record: its losses counted and graded, and the outcome of decoding it.
+#![tactic(auto)]
+
 ghost use Rattle.std.specs.Prelude.{◌≡◌};
 ghost use Rattle.code.specs.Family.{single, code_refusal};
 ghost use Rattle.code.specs.Laws.{Decodable};
@@ -8,7 +10,7 @@ ghost use Rattle.recording.specs.Step.{IsVerdict};
 use code::{Code, Shape};
 
 // What became of a stripe: its message is decided, no codeword agrees, or more than one does.
-#[derive(Drop)]
+#[derive(Clone, Copy)]
 pub enum Outcome {
     Decided,
     Foreign,
@@ -16,7 +18,7 @@ pub enum Outcome {
 }
 
 // A stripe's record: its code, the number lost, the guarantee, the grade, the first broken group, and the outcome.
-#[derive(Drop)]
+#[derive(Clone, Copy)]
 pub struct StripeRecord {
     pub code: Code,
     pub lost: u32,
@@ -27,7 +29,7 @@ pub struct StripeRecord {
 }
 
 // A refusal number, and a record that is blank on a refusal.
-#[derive(Drop)]
+#[derive(Clone, Copy)]
 pub struct Recorded {
     pub refusal: u32,
     pub record: StripeRecord,

@@ -1,4 +1,6 @@
 // Repair and strip rebuild, of any shape whose groups stand one loss.
+#![tactic(auto)]
+
 ghost use Rattle.std.specs.Prelude.{◌≡◌};
 ghost use Rattle.code.specs.Family.{single, code_refusal};
 ghost use Rattle.code.specs.Shape.{mates_number};

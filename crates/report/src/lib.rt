@@ -1,4 +1,6 @@
 // The report program: reads a stripe sheet from standard input and writes its report. A refused sheet is a report like any other.
+#![tactic(auto)]
+
 ghost use Rattle.std.specs.Prelude.{◌≤◌};
 
 // The program's exit status: 0, or 2 where reading or writing fails.

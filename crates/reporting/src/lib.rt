@@ -1,4 +1,6 @@
 // The report of a sheet: its stripe's code, its losses, and its message, or the refusal.
+#![tactic(auto)]
+
 ghost use Rattle.std.specs.Prelude.{◌≡◌, ◌≤◌, length, take};
 ghost use Rattle.decode.specs.Decode.{decode_refusal};
 ghost use Rattle.code.specs.Family.{single, code_refusal};

@@ -1,4 +1,6 @@
 // Row reduction of a matrix of up to sixteen rows: what the rows annul stays the same, and most of their first columns become 0.
+#![tactic(auto)]
+
 ghost use Rattle.std.specs.Prelude.{◌≡◌, ◌*◌, ◌≤◌, ◌<◌, length};
 ghost use Rattle.field.specs.Table.{Powers, Logs};
 ghost use Rattle.row_reduction.specs.Matrix.{matrix_row, Elements, Reduced};

@@ -1,4 +1,6 @@
 // The stripe sheet: its reader and its writer.
+#![tactic(auto)]
+
 ghost use Rattle.std.specs.Prelude.{◌≡◌, ◌++◌, ◌+◌, ◌*◌, ◌≤◌, ◌<◌, ltb, length, drop};
 ghost use Rattle.algebra.specs.Sequence.{every, tabulate};
 ghost use Rattle.code.specs.Family.{code_refusal};
@@ -10,7 +12,7 @@ ghost use Rattle.sheet.specs.Step.{put_slots};
 use code::Code;
 
 // The code of a sheet, or the refusal of it.
-#[derive(Drop)]
+#[derive(Clone, Copy)]
 pub struct Sheet {
     pub refusal: u32,
     pub code: Code,

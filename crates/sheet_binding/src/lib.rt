@@ -1,4 +1,6 @@
 // The sheet reader as C takes it: the code is five numbers in a buffer.
+#![tactic(auto)]
+
 ghost use Rattle.sheet_binding.specs.Sheet.{ReadFills};
 
 // Reads a stripe sheet, and writes the five numbers of its code.

@@ -1,4 +1,6 @@
 // Reports on a row of sheets, and previews them: each is its length in two bytes, the high byte first, and its bytes.
+#![tactic(auto)]
+
 ghost use Rattle.std.specs.Prelude.{◌<◌};
 
 // The report of one sheet.

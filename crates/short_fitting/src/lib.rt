@@ -1,5 +1,7 @@
 // Decoding within the guarantee, of whole groups or a short last one: a short code is decoded as a code of whole groups, whose missing places are
 // kept and hold 0.
+#![tactic(auto)]
+
 ghost use Rattle.std.specs.Prelude.{◌≡◌, false, ℕ, ◌+◌, ◌≤◌, length};
 ghost use Rattle.algebra.specs.Sequence.{at};
 ghost use Rattle.field.specs.Table.{Powers, Logs};

@@ -1,4 +1,6 @@
 // A code with a short last group as a shortened code: from the message of the code of whole groups to its own message.
+#![tactic(auto)]
+
 ghost use Rattle.std.specs.Prelude.{◌≡◌, true, false, ℕ, ◌+◌, ◌-◌, ◌≤◌, ◌<◌, length, take};
 ghost use Rattle.algebra.specs.Sequence.{at, all_below};
 ghost use Rattle.algebra.specs.Writing.{Written};

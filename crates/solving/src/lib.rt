@@ -1,4 +1,6 @@
 // Which messages fit the kept symbols: interpolation within the guarantee; beyond it local repair where that is enough, else elimination.
+#![tactic(auto)]
+
 ghost use Rattle.std.specs.Prelude.{◌≡◌, length, replicate};
 ghost use Rattle.field.specs.Table.{Powers, Logs};
 ghost use Rattle.code.specs.Laws.{Decodable};

@@ -1,5 +1,7 @@
 // A group's span of the word and of the marks, by members: which one is lost, and the symbols of its mates.
 // A group's span is the stretch from its first member to its last; its members stand step apart in it.
+#![tactic(auto)]
+
 ghost use Rattle.std.specs.Prelude.{◌≡◌, ℕ, ◌*◌, ◌<◌, length};
 ghost use Rattle.algebra.specs.Sequence.{at, count};
 ghost use Rattle.code.specs.Shape.{groups, members};

@@ -1,4 +1,6 @@
 // Columns of strips that lie behind each other: read into a buffer, and written from one.
+#![tactic(auto)]
+
 ghost use Rattle.std.specs.Prelude.{◌≡◌, ◌*◌, ◌≤◌, ◌<◌, length};
 ghost use Rattle.algebra.specs.Sequence.{column};
 ghost use Rattle.strip_columns.specs.Strips.{strips_are};

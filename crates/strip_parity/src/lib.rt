@@ -1,4 +1,6 @@
 // Whether some codeword has the symbols of every column of mates' strips: the parity strips of the checks must be 0.
+#![tactic(auto)]
+
 ghost use Rattle.std.specs.Prelude.{◌≡◌, true, ◌*◌, ◌≤◌, ◌<◌, length};
 ghost use Rattle.algebra.specs.Sequence.{all_below, every};
 ghost use Rattle.field.specs.Field.{q};

@@ -1,4 +1,6 @@
 // Strips with losses decoded into lent room: first what decode uses of work, then the strips of the messages.
+#![tactic(auto)]
+
 ghost use Rattle.std.specs.Prelude.{◌≡◌, cond, List, ℕ, ◌+◌, ◌*◌, ◌≤◌, ◌<◌, eqb, length, drop};
 ghost use Rattle.strip_words.specs.Answer.{ColumnAnswer, Answer};
 ghost use Rattle.strip_settling.specs.Step.{Task, ColumnSettled};

@@ -1,4 +1,6 @@
 // Words as strips with losses, one mark a slot for all columns: the questions on them, and a column of the kept strips.
+#![tactic(auto)]
+
 ghost use Rattle.std.specs.Prelude.{◌≡◌, Bool, ◌+◌, ◌*◌, ◌≤◌, ◌<◌, length};
 ghost use Rattle.code.specs.Laws.{Plain};
 ghost use Rattle.strip_words.specs.Strips.{strip_below, kept_strips_below, kept_symbol, kept_column, strips_refusal};

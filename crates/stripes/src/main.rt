@@ -1,5 +1,7 @@
 // Runs random calls with the answers of a separately written program (crate vectors), and counts the mismatches.
 // The record, the report and the previews, which stand above the other calls, are compared with that program from outside alone.
+#![tactic(auto)]
+
 use code::Code;
 use vectors::Call;
 

@@ -1,4 +1,6 @@
 // The order of a field, and its tables: powers of 2 in both fields, logarithms over bytes.
+#![tactic(auto)]
+
 ghost use Rattle.std.specs.Prelude.{◌≡◌, ◌-◌, ◌≤◌, ◌<◌};
 ghost use Rattle.field.specs.Field.{q, γ, power};
 ghost use Rattle.field.specs.Table.{Powers, Logs};

@@ -1,5 +1,7 @@
 // Counts of calls and of their mismatches, and the lines that print them.
 // Number i of the counts is how often call i was made, from 1 to 15, and number 16 + i is how often it mismatched.
+#![tactic(auto)]
+
 
 // One more.
 fn more(n: u32) -> u32 {

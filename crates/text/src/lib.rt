@@ -1,4 +1,6 @@
 // The report's text, written into a lent buffer piece by piece.
+#![tactic(auto)]
+
 ghost use Rattle.std.specs.Prelude.{[], ◌∷◌, ◌++◌, ◌+◌, ◌*◌, ◌≤◌, ◌<◌, length};
 ghost use Rattle.text.specs.Text.{numeral, spaced, all_spaced, refused_line, wiring_mark, code_line, grade_end, losses_line, message_line, stripe_lines, Small, Puts};
 

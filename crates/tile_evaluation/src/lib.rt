@@ -1,4 +1,6 @@
 // Values of polynomials whose coefficients are tiles: plans of the powers of a point, tables of the coefficients, and the tile of the values.
+#![tactic(auto)]
+
 ghost use Rattle.std.specs.Prelude.{◌≡◌, ◌⊎◌, List, ℕ, ◌+◌, ◌*◌, ◌≤◌, ◌<◌, length};
 ghost use Rattle.algebra.specs.Sequence.{at};
 ghost use Rattle.field.specs.Table.{Powers, Logs};

@@ -1,4 +1,6 @@
 // Strips into tiles of bit planes and back. A last tile that a strip does not fill is filled up with 0.
+#![tactic(auto)]
+
 ghost use Rattle.std.specs.Prelude.{◌+◌, ◌*◌, ◌-◌, ◌≤◌, ◌<◌, length};
 ghost use Rattle.tile_strips.specs.Tile.{padded, TileSet, Stored};
 

@@ -1,6 +1,8 @@
 // Records of calls, with the answers of a separately written program.
 // A record is the call, six numbers, the buffers before, the answer and the buffers after. A number is four bytes, the high
 // byte first. A buffer is its length, how many bytes are given, and these, which repeat; after the call it is as before past that length.
+#![tactic(auto)]
+
 ghost use Rattle.std.specs.Prelude.{◌≤◌, ◌<◌, length};
 
 // The number of four bytes.
@@ -200,7 +202,7 @@ fn length_of_numbers(record: &[u8], most: usize) -> usize
 }
 
 // The call, and the six numbers that it is made with.
-#[derive(Drop)]
+#[derive(Clone, Copy)]
 pub struct Call {
     pub number: u32,
     pub field: u32,

@@ -1,4 +1,6 @@
 // The group view: the part of a word that is a slot's repair group.
+#![tactic(auto)]
+
 ghost use Rattle.std.specs.Prelude.{◌≡◌};
 ghost use Rattle.code.specs.Family.{single, code_refusal};
 ghost use Rattle.code.specs.Answer.{Answers};

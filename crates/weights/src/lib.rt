@@ -1,4 +1,6 @@
 // Repair weights, of any shape whose groups stand one loss.
+#![tactic(auto)]
+
 ghost use Rattle.std.specs.Prelude.{◌≡◌, ◌<◌};
 ghost use Rattle.code.specs.Family.{single, code_refusal};
 ghost use Rattle.code.specs.Laws.{Mending};
@@ -8,7 +10,7 @@ ghost use Rattle.weights.specs.Weights.{sixteen, WeightsSay};
 use code::{Code, Shape};
 
 // A refusal number, and the repair weights of a slot, one for each mate, with zeros after them.
-#[derive(Drop)]
+#[derive(Clone, Copy)]
 pub struct RepairWeights {
     pub refusal: u32,
     pub weights: [u8; 16],

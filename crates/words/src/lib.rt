@@ -1,4 +1,6 @@
 // The words of a stripe sheet, 32 bits each: one word read and written, and what the words of each kind say.
+#![tactic(auto)]
+
 ghost use Rattle.std.specs.Prelude.{◌≡◌, false, ◌+◌, ◌*◌, ◌≤◌, ◌<◌, length};
 ghost use Rattle.code.specs.Decoding.{lost};
 ghost use Rattle.words.specs.Word.{word, word_at, kind, code_word, end_word, slot_word, word_code, slot_fits, word_symbol, word_mark};
