@@ -1,7 +1,6 @@
 // A code by its numbers: the public record, the shape that all families of codes share, and the answer of a call.
 #![tactic(auto)]
 
-
 // The code record of the paper: the field, the locality r, the length n, the dimension k, and the wiring, how the repair groups are
 // placed: 0 one after the other, 1 interleaved.
 #[derive(Clone, Copy)]

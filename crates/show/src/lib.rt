@@ -1,7 +1,7 @@
 // Numbers and lines on standard output, for the programs.
-// A number and a space.
 #![tactic(auto)]
 
+// A number and a space.
 pub fn put(n: u32) {
     io::print_decimal(1, n as u64);
     io::write_all(1, b" ");

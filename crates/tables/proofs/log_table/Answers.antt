@@ -4,16 +4,12 @@ use Rattle.algebra.specs.Sequence.{at, every}
 use Rattle.field.specs.Field.{q, γ, times, times_from, xor_from, doubled, power}
 use Rattle.field.proofs.Generator.{table, table_at, powers_from}
 use Rattle.tables.proofs.Tables.{logs, inverts, log_is}
-use Rattle.tables.proofs.log_table.Statement.{statement}
-use Rattle.tables.proofs.log_table.Tie as tie
+use Rattle.tables.proofs.log_table.Goals as goal
 
 entries : (e : ℕ) → e < 255 → at (table 1) e ≡ power 1 γ e
 unfolding q
 entries e h = table_at 1 e h
 
-returns : tie.Need-returns
+pub returns : goal.returns
 unfolding inverts log_is every powers_from q γ times times_from xor_from doubled
 returns c = logs (table 1) _ entries tt
-
-pub log-table-spec : {M : Type 1} → statement M
-log-table-spec = tie.close (tie.spec returns)
