@@ -1,0 +1,46 @@
+use mathlib.Core.Path.{◌≡◌, refl, sym}
+use mathlib.Core.Logic.{⊎_elim}
+use mathlib.Core.List.{List}
+use Prim.Native.Nat.{ℕ, ◌+◌, ◌-◌, ◌≤◌, ◌<◌}
+use native.Mathlib.Omega.{arith}
+use native.Mathlib.Decide.{ℕ_discrete}
+use lib.ListN.{length}
+use Rattle.algebra.specs.Sequence.{at}
+use Rattle.questions.specs.Step.{Highest}
+use Rattle.questions.proofs.highest.Goals as goal
+
+module _ (i : ℕ) (xs : List ℕ) (x : ℕ) (H : Highest i xs x) where
+  -- a bound of the first i entries, and of the next
+  below_next : (y : ℕ) → x ≤ y → at xs i ≤ y → (k : ℕ) → k < i + 1 → at xs k ≤ y
+  below_next y l h k b = go (ℕ_discrete k i)
+    where
+      go : Dec (k ≡ i) → at xs k ≤ y
+      go (yes e) = rw e h
+      go (no n) = omega (arith, H.most k (omega arith))
+
+  highest-new : x < at xs i → Highest (i + 1) xs (at xs i)
+  highest-new l = record { place = i; within = omega arith; there = refl; most = below_next (at xs i) (omega arith) (omega arith) }
+
+  highest-old : at xs i ≤ x → Highest (i + 1) xs x
+  highest-old l = record { place = H.place; within = omega (arith, H.within); there = H.there; most = below_next x (omega arith) l }
+
+pub loop-i-init : goal.loop-i-init
+loop-i-init c =
+    let xs = c.args.entries.now in
+    (omega arith, record { place = 0; within = omega arith; there = refl; most = λ k h. let e : k ≡ 0 = omega arith in rw e (omega arith) })
+
+pub loop-i-preserved : goal.loop-i-preserved
+loop-i-preserved c =
+    let xs = c.args.entries.now in
+    let l = c.loop-i in (
+      omega arith,
+      ⊎_elim (λ w. rw w.2 (highest-new l.i xs l.high l.invariant.1 w.0.taken))
+          (λ w. rw w.1 (highest-old l.i xs l.high l.invariant.1 (omega (arith, w.0.left)))) c.if-entries-i.branch,
+    )
+
+pub returns : goal.returns
+returns c =
+    let xs = c.args.entries.now in
+    let l = c.loop-i in
+    let e : l.i ≡ length xs = omega arith in
+    rw (sym e) l.invariant.1

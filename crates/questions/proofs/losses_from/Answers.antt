@@ -1,0 +1,50 @@
+use mathlib.Core.Path.{◌≡◌, sym, ap, ◌∙◌}
+use mathlib.Core.Logic.{⊎_elim}
+use Prim.Native.Nat.{◌+◌, ◌*◌, ◌-◌}
+use native.Mathlib.Omega.{arith}
+use borrow.Author.Tests.{eq-eqb, ne_eqb}
+use Rattle.algebra.specs.Sequence.{at, count}
+use Rattle.algebra.proofs.Counting.{count_zero, count_yes, count_no, count_most}
+use Rattle.code.specs.Decoding.{lost}
+use Rattle.questions.proofs.losses_from.Invariants.{lost-at}
+use Rattle.questions.proofs.losses_from.Goals as goal
+
+pub loop-i-init : goal.loop-i-init
+loop-i-init c = let a = c.args in (omega arith, sym (count_zero (lost-at a.marks.now a.first a.step)))
+
+pub overflow_mul-i : goal.overflow_mul-i
+overflow_mul-i c = omega (arith, c.requires c.loop-i.i c.loop-i-test.true)
+
+pub overflow_add-first : goal.overflow_add-first
+overflow_add-first c = omega (arith, c.requires c.loop-i.i c.loop-i-test.true)
+
+pub bounds-marks-first : goal.bounds-marks-first
+bounds-marks-first c = c.requires c.loop-i.i c.loop-i-test.true
+
+pub overflow_add-lost : goal.overflow_add-lost
+overflow_add-lost c =
+    let l = c.loop-i in
+    let a = c.args in
+    omega (arith, l.invariant.1, count_most (lost-at a.marks.now a.first a.step) l.i, c.loop-i-test.true)
+
+pub overflow_add-i : goal.overflow_add-i
+overflow_add-i c = omega (arith, c.loop-i-test.true)
+
+pub loop-i-preserved : goal.loop-i-preserved
+unfolding lost
+loop-i-preserved c =
+    let a = c.args in
+    let l = c.loop-i in
+    let f = lost-at a.marks.now a.first a.step in
+    let x = at a.marks.now (a.first + l.i * a.step) in (
+      omega (arith, c.loop-i-test.true),
+      ⊎_elim (λ w. w.1 ∙ ap (λ n. n + 1) l.invariant.1 ∙ count_yes f l.i (eq-eqb x 1 w.0.taken))
+          (λ w. w.1 ∙ l.invariant.1 ∙ count_no f l.i (ne_eqb x 1 w.0.left)) c.if-marks-first-eq1.branch,
+    )
+
+pub returns : goal.returns
+returns c =
+    let a = c.args in
+    let l = c.loop-i in
+    let e : l.i ≡ a.number = omega arith in
+    l.invariant.1 ∙ ap (count (lost-at a.marks.now a.first a.step)) e

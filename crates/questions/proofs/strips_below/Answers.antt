@@ -1,0 +1,36 @@
+use mathlib.Core.Path.{◌≡◌, sym, ◌∙◌}
+use mathlib.Core.List.{List}
+use Prim.Native.Nat.{ℕ, ◌<◌}
+use native.Mathlib.Omega.{arith}
+use native.Mathlib.Decide.{dec_lt}
+use borrow.Author.Tests.{lt-ltb, le-ltb}
+use lib.Dec.{ltb}
+use lib.ListN.{length}
+use Rattle.algebra.specs.Sequence.{all_below}
+use Rattle.algebra.proofs.Booleans.{yes_true}
+use Rattle.algebra.proofs.Below.{all_below_intro, all_below_not}
+use Rattle.questions.specs.Step.{Highest}
+use Rattle.questions.proofs.strips_below.Goals as goal
+
+-- all are below a number just where the highest is
+decided : (xs : List ℕ) (x q : ℕ) → Highest (length xs) xs x → ltb x q ≡ all_below q xs
+decided xs x q H = go (dec_lt x q)
+  where
+    go : Dec (x < q) → ltb x q ≡ all_below q xs
+    go (yes l) = lt-ltb x q l ∙ sym (yes_true (all_below q xs) (all_below_intro q xs (λ i h. omega (arith, H.most i h))))
+    go (no l) = le-ltb x q (omega arith) ∙ sym (all_below_not q xs H.place H.within (omega (arith, H.there)))
+
+pub returns-then-most-gt255 : goal.returns-then-most-gt255
+returns-then-most-gt255 c =
+    let a = c.args in
+    sym (yes_true (all_below a.most a.entries.now) (all_below_intro a.most a.entries.now (λ i h. omega (arith, c.shared_slice_known-1.given i))))
+
+pub returns-then-entries-eq0 : goal.returns-then-entries-eq0
+returns-then-entries-eq0 c =
+    let a = c.args in
+    sym (yes_true (all_below a.most a.entries.now) (all_below_intro a.most a.entries.now (λ i h. absurd (omega arith))))
+
+pub returns : goal.returns
+returns c =
+    let a = c.args in
+    decided a.entries.now c.highest.result a.most c.highest.ensures
