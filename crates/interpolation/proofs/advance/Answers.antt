@@ -21,11 +21,11 @@ returns c =
     let B = c.add_scaled-2 in
     let C = c.mul_differences in
     let D = c.mul_linear in (
-      rooms_kept a.coefs.now a.basis.now a.values.now a.rests.now A.new.1.0 D.new.1.0 C.new.1.0 B.new.1.0
+      rooms_kept a.coefs.now a.basis.now a.values.now a.rests.now A.new.target D.new.basis C.new.values B.new.target
           c.requires.5 A.ensures.size D.ensures.size C.ensures.size B.ensures.size,
       λ ws N.
           place_taken a.field a.n a.points.now ws a.marks.now a.i a.c a.coefs.now a.basis.now a.values.now a.rests.now
-          A.new.1.0 D.new.1.0 C.new.1.0 B.new.1.0 k.result v.result h.result w.result b.result e.result
+          A.new.target D.new.basis C.new.values B.new.target k.result v.result h.result w.result b.result e.result
           c.requires.4 c.requires.5 c.requires.1 c.if-marks-i-eq1.false w.ensures.0 b.ensures e.ensures.0
           v.ensures k.ensures h.ensures A.ensures B.ensures C.ensures D.ensures N,
     )

@@ -17,7 +17,7 @@ pub settle-i-requires : goal.settle-i-requires
 settle-i-requires c =
     let a = c.args in
     let d = c.load in
-    let l : length d.new.1.1.1.0 ≡ 256 = d.ensures.size ∙ length-replicate {A = ℕ} 256 0 in (
+    let l : length d.new.rests ≡ 256 = d.ensures.size ∙ length-replicate {A = ℕ} 256 0 in (
       length-replicate {A = ℕ} 256 0,
       at_zeros 256,
       l,
@@ -35,5 +35,5 @@ returns c =
     let a = c.args in
     let d = c.load in
     let e = c.settle-i in
-    interpolated a.field a.n a.most a.points.now a.word.now a.marks.now d.new.1.1.1.0 e.new.1.1.1.1.1.0 e.new.1.1.1.1.1.1.0
+    interpolated a.field a.n a.most a.points.now a.word.now a.marks.now d.new.rests e.new.coefs e.new.rests
     e.result c.requires.0 record { below = c.requires.3; differ = c.requires.4 } (λ p h. d.ensures.put p (omega arith) h) e.ensures c.agree.result c.agree.ensures

@@ -6,5 +6,5 @@ use Rattle.interpolation.proofs.mul_linear.Goals as goal
 pub returns : goal.returns
 returns c =
     let a = c.args in
-    multiplied a.field c.sub-k.result (minus a.field 0 a.y) a.to a.basis.now c.shift.new.1.0
-    c.combine.new.1.1.0 c.sub-k.ensures c.shift.ensures c.combine.ensures
+    multiplied a.field c.sub-k.result (minus a.field 0 a.y) a.to a.basis.now c.shift.new.target
+    c.combine.new.target c.sub-k.ensures c.shift.ensures c.combine.ensures

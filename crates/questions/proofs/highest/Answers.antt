@@ -1,5 +1,4 @@
 use mathlib.Core.Path.{◌≡◌, refl, sym}
-use mathlib.Core.Logic.{⊎_elim}
 use mathlib.Core.List.{List}
 use Prim.Native.Nat.{ℕ, ◌+◌, ◌-◌, ◌≤◌, ◌<◌}
 use native.Mathlib.Omega.{arith}
@@ -8,6 +7,7 @@ use lib.ListN.{length}
 use Rattle.algebra.specs.Sequence.{at}
 use Rattle.questions.specs.Step.{Highest}
 use Rattle.questions.proofs.highest.Goals as goal
+use Rattle.questions.proofs.highest.Goals.{then-entries-i, else-entries-i}
 
 module _ (i : ℕ) (xs : List ℕ) (x : ℕ) (H : Highest i xs x) where
   -- a bound of the first i entries, and of the next
@@ -34,8 +34,10 @@ loop-i-preserved c =
     let xs = c.args.entries.now in
     let l = c.loop-i in (
       omega arith,
-      ⊎_elim (λ w. rw w.2 (highest-new l.i xs l.high l.invariant.1 w.0.taken))
-          (λ w. rw w.1 (highest-old l.i xs l.high l.invariant.1 (omega (arith, w.0.left)))) c.if-entries-i.branch,
+      elim c.if-entries-i.branch [
+        | then-entries-i w ↦ rw w.high-is (highest-new l.i xs l.high l.invariant.1 w.if-entries-i.true)
+        | else-entries-i w ↦ rw w.high-is (highest-old l.i xs l.high l.invariant.1 (omega (arith, w.if-entries-i.false)))
+      ],
     )
 
 pub returns : goal.returns

@@ -8,6 +8,7 @@ use Rattle.algebra.proofs.Counting.{count_zero, count_yes, count_no, count_most}
 use Rattle.code.specs.Decoding.{lost}
 use Rattle.questions.proofs.losses_from.Invariants.{lost-at}
 use Rattle.questions.proofs.losses_from.Goals as goal
+use Rattle.questions.proofs.losses_from.Goals.{then-marks-first-eq1, else-marks-first-eq1}
 
 pub loop-i-init : goal.loop-i-init
 loop-i-init c = let a = c.args in (omega arith, sym (count_zero (lost-at a.marks.now a.first a.step)))
@@ -38,8 +39,10 @@ loop-i-preserved c =
     let f = lost-at a.marks.now a.first a.step in
     let x = at a.marks.now (a.first + l.i * a.step) in (
       omega (arith, c.loop-i-test.true),
-      ⊎_elim (λ w. w.1 ∙ ap (λ n. n + 1) l.invariant.1 ∙ count_yes f l.i (eq-eqb x 1 w.0.taken))
-          (λ w. w.1 ∙ l.invariant.1 ∙ count_no f l.i (ne_eqb x 1 w.0.left)) c.if-marks-first-eq1.branch,
+      elim c.if-marks-first-eq1.branch [
+        | then-marks-first-eq1 w ↦ w.lost-is ∙ ap (λ n. n + 1) l.invariant.1 ∙ count_yes f l.i (eq-eqb x 1 w.if-marks-first-eq1.true)
+        | else-marks-first-eq1 w ↦ w.lost-is ∙ l.invariant.1 ∙ count_no f l.i (ne_eqb x 1 w.if-marks-first-eq1.false)
+      ],
     )
 
 pub returns : goal.returns

@@ -12,6 +12,7 @@ use Rattle.algebra.proofs.Every.{every_intro, every_not}
 use Rattle.code.specs.Decoding.{lost}
 use Rattle.questions.proofs.symbols_from.Invariants.{fits}
 use Rattle.questions.proofs.symbols_from.Goals as goal
+use Rattle.questions.proofs.symbols_from.Goals.{then-marks-p-ne1+else-word-p, else-marks-p-ne1}
 
 pub loop-i-init : goal.loop-i-init
 loop-i-init c = (omega arith, λ k h. absurd (omega arith))
@@ -58,7 +59,10 @@ loop-i-preserved c = (omega (arith, c.loop-i-test.true), λ k h. go k h (ℕ_dis
         let p = a.first + c.loop-i.i * a.step in
         let m = eqb (at a.marks.now p) 1 in
         let b = ltb (at a.word.now p) a.most in
-        rw e (⊎_elim (λ w. or_right m b (lt→ltb (at a.word.now p) a.most w.2.left)) (λ w. or_left m b (so (eq-eqb (at a.marks.now p) 1 w.left))) c.if-marks-p-ne1.branch)
+        rw e (elim c.if-marks-p-ne1.branch [
+          | then-marks-p-ne1+else-word-p w ↦ or_right m b (lt→ltb (at a.word.now p) a.most w.if-word-p.false)
+          | else-marks-p-ne1 w ↦ or_left m b (so (eq-eqb (at a.marks.now p) 1 w.if-marks-p-ne1.false))
+        ])
 
 pub returns : goal.returns
 returns c =
