@@ -85,7 +85,7 @@ module _ (R : Ring) where
             ∙ ap (λ z. (x ⊖ y) ⊗ vanish R ys x ⊗ S.quot x ⊕ (g y ⊕ z ⊗ S.rest x)) (sym (mul_unit (x ⊖ y)));
       }
 
-  vanish_in : {ys : List El} (y : El) → In y ys → vanish R ys y ≡ 𝟘
+  vanish_in : (y : El) {ys : List El} → In y ys → vanish R ys y ≡ 𝟘
   unfolding vanish
   vanish_in y (here {xs = ys}) = ap (λ z. z ⊗ vanish R ys y) (sub_self R y) ∙ nil_mul R (vanish R ys y)
   vanish_in y (there {y = z} i) = ap (λ v. (y ⊖ z) ⊗ v) (vanish_in y i) ∙ mul_nil R (y ⊖ z)

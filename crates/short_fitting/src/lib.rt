@@ -28,7 +28,7 @@ fn solve_long(
     requires { Decodable shape × (whole shape ≡ false) × Received (mother shape) word.now marks.now
         × ((p : ℕ) → shape.n ≤ p → (at word.now p ≡ 0) × (at marks.now p ≡ 0))
         × (length row.old ≡ shape.k + missing shape) × (length message.old ≡ shape.k)
-        × (lost-number (mother shape) marks.now ≤ guarantee shape) × Powers 1 powers.now × Logs logs.now }
+        × (lost_number (mother shape) marks.now ≤ guarantee shape) × Powers 1 powers.now × Logs logs.now }
     ensures { Verdict shape word.now marks.now message.old message.new result }
 {
     let mother = shortening::mother_of(shape);

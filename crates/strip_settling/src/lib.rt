@@ -53,7 +53,7 @@ fn settle_columns(
     room: &mut [u8],
 ) -> u32
     requires { Task shape l words.now marks.now × (start ≤ l) × (length word.old ≡ shape.n) × (length message.old ≡ shape.k) × (length room.old ≡ shape.n * (shape.k + 1 + l))
-        × ((d : ℕ) → d < start → Column-answer shape l words.now marks.now (drop (shape.n * (shape.k + 1)) room.old) d 0) }
+        × ((d : ℕ) → d < start → ColumnAnswer shape l words.now marks.now (drop (shape.n * (shape.k + 1)) room.old) d 0) }
     ensures { Answer shape l words.now marks.now (drop (shape.n * (shape.k + 1)) room.new) result }
 {
     let mut answer: u32 = 0;

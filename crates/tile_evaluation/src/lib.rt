@@ -60,7 +60,7 @@ pub fn write_tables(tiles: &[u8], m: usize, g: usize, table: &mut [u8])
 pub fn write_value(g: usize, plan: &[u8], p: usize, table: &[u8], out: &mut [u8], o: usize)
     requires { ((g ≡ 1) ⊎ (g ≡ 4)) × (p + g * 8 ≤ length plan.now) × Nibbles plan.now p (g * 8) × (g * 4096 ≤ length table.now) × (o + 256 ≤ length out.old) }
     ensures { (x n m : ℕ) (xs : List ℕ) → n ≤ g * 4 → PlanAt x n g plan.now p → TablesAt xs m g table.now
-        → Value-written x n (λ e. shown xs (m + e * 256)) o out.old out.new }
+        → ValueWritten x n (λ e. shown xs (m + e * 256)) o out.old out.new }
 {
     if g == 1 {
         plane_sums::write_row(plan, p, table, out, o);

@@ -42,8 +42,8 @@ fn add_row(
 )
     requires { (m < 8) × (start ≤ at counts.now m) × Reach (c + length t.old) (length strips.now) offsets.now counts.now }
     ensures { (length t.new ≡ length t.old) × ((b : ℕ → ℕ)
-        → t.old ≡ tabulate (λ i. sum (b i) (row-symbol strips.now offsets.now m (c + i)) start) (length t.old)
-        → t.new ≡ tabulate (λ i. sum (b i) (row-symbol strips.now offsets.now m (c + i)) (at counts.now m)) (length t.old)) }
+        → t.old ≡ tabulate (λ i. sum (b i) (row_symbol strips.now offsets.now m (c + i)) start) (length t.old)
+        → t.new ≡ tabulate (λ i. sum (b i) (row_symbol strips.now offsets.now m (c + i)) (at counts.now m)) (length t.old)) }
 {
     let n = counts[m] as usize;
     let mut k = start;

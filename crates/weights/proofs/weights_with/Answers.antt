@@ -19,7 +19,7 @@ returns-then-refused-ne0 c =
     record { refusal = e; weights = rw (ne_eqb (weights_refusal a.refusal a.shape a.slot) 0 (λ z. c.if-refused-ne0.true (e ∙ z))) refl }
 
 zero : (c : Else-refused-ne0) → let a = c.args in weights_refusal a.refusal a.shape a.slot ≡ 0
-zero c = sym (refusal (c.After-ask-refused)) ∙ c.if-refused-ne0.false
+zero c = sym (refusal c.before) ∙ c.if-refused-ne0.false
 
 pub weights_of-requires : goal.weights_of-requires
 weights_of-requires c =

@@ -1,0 +1,33 @@
+use mathlib.Core.Path.{ap, ◌∙◌}
+use Prim.Native.Nat.{ℕ}
+use lib.ListN.{replicate}
+use Rattle.elimination.proofs.Verdicts.{verdict_none, verdict_one, verdict_more}
+use Rattle.elimination.proofs.solve_beyond.Goals as goal
+
+pub returns-then-not-gather : goal.returns-then-not-gather
+returns-then-not-gather c =
+    let a = c.args in
+    let g = c.gather in (
+      verdict_none a.shape a.word.now a.marks.now g.new.work a.message.now g.result g.ensures c.if-not-gather.true,
+      c.clear.ensures ∙ ap (λ (l : ℕ). replicate l 0) g.auto.work,
+    )
+
+pub returns-then-one : goal.returns-then-one
+returns-then-one c =
+    let a = c.args in
+    let g = c.gather in
+    let t = c.finish-one in (
+      verdict_one a.shape a.word.now a.marks.now g.new.work g.result g.ensures c.if-not-gather.false a.message.now
+          t.new.solution t.result t.ensures c.if-one.true,
+      c.clear-2.ensures ∙ ap (λ (l : ℕ). replicate l 0) g.auto.work,
+    )
+
+pub returns : goal.returns
+returns c =
+    let a = c.args in
+    let g = c.gather in
+    let t = c.finish-one in (
+      verdict_more a.shape a.word.now a.marks.now g.new.work g.result g.ensures c.if-not-gather.false a.message.now
+          t.new.solution t.result t.ensures c.if-one.false,
+      c.clear-2.ensures ∙ ap (λ (l : ℕ). replicate l 0) g.auto.work,
+    )

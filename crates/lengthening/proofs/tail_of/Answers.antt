@@ -1,0 +1,70 @@
+use mathlib.Core.Path.{◌≡◌, sym, ap, ◌∙◌, subst}
+use Prim.Native.Nat.{suc, ◌+◌, ◌-◌}
+use native.Mathlib.Nat.{zero-add}
+use native.Mathlib.Omega.{arith}
+use lib.ListN.{length, drop, length-drop}
+use lib.Seq.{get_or-drop}
+use Rattle.algebra.specs.Sequence.{at, all_below}
+use Rattle.algebra.proofs.Booleans.{so, yes_true}
+use Rattle.algebra.proofs.Below.{all_below_drop}
+use Rattle.algebra.proofs.Writing.{laid_done, laid_same}
+use Rattle.field.specs.Field.{q}
+use Rattle.code.proofs.Places.{missing_inside}
+use Rattle.code.proofs.Bounds.{r_most, room_byte}
+use Rattle.lengthening.proofs.Tails.{Tailed, tailed_none, tailed_more, tailed_all}
+use Rattle.lengthening.proofs.tail_of.Goals as goal
+
+pub copy-requires : goal.copy-requires
+copy-requires c =
+    (omega (arith, c.requires.3), omega (arith, c.requires.3, c.requires.4, r_most c.args.shape c.requires.2))
+
+pub loop-i-init : goal.loop-i-init
+loop-i-init c =
+    let a = c.args in
+    let bs = drop a.lead a.message.now in
+    let n : length a.message.now - a.lead ≡ length bs = sym (length-drop a.lead a.message.now) in
+    rw n
+    (tailed_none a.shape bs c.missing_of-i.result _ c.missing_of-i.ensures
+    (yes_true (all_below (q a.shape.field) bs) (all_below_drop (q a.shape.field) a.lead a.message.now (so c.requires.5)))
+    (omega (arith, c.requires.3, c.requires.4, r_most a.shape c.requires.2))
+    (laid_done n
+    (laid_same (λ i h. sym (get_or-drop a.lead a.message.now (0 + i) 0 ∙ ap (λ n. at a.message.now (a.lead + n)) (zero-add i))) c.copy.ensures)))
+
+pub overflow_add-to : goal.overflow_add-to
+overflow_add-to c =
+    omega (arith, c.requires.3, c.requires.4, r_most c.args.shape c.requires.2, c.loop-i.invariant.number, length-drop c.args.lead c.args.message.now)
+
+pub overflow_add-shape : goal.overflow_add-shape
+overflow_add-shape c =
+    let l = c.loop-i in
+    omega (arith, room_byte c.args.shape c.requires.2, missing_inside c.args.shape c.requires.2 (l.i - 1) (omega (arith, l.invariant.most)))
+
+pub point_of-y-requires : goal.point_of-y-requires
+point_of-y-requires c =
+    let l = c.loop-i in
+    (c.requires.0, c.requires.2, missing_inside c.args.shape c.requires.2 (l.i - 1) (omega (arith, l.invariant.most)))
+
+pub mul_root-requires : goal.mul_root-requires
+mul_root-requires c =
+    let I = c.loop-i.invariant in
+    (c.requires.0, c.requires.1, I.room, omega (arith, c.requires.3, c.requires.4, r_most c.args.shape c.requires.2, I.number, length-drop c.args.lead c.args.message.now))
+
+pub loop-i-preserved : goal.loop-i-preserved
+loop-i-preserved c =
+    let a = c.args in
+    let bs = drop a.lead a.message.now in
+    let l = c.loop-i in
+    let i = l.i - 1 in
+    let e : l.i ≡ suc i = omega arith in
+    let n : l.to + 1 ≡ suc l.to = omega arith in
+    let m = c.mul_root in
+    rw n
+    (tailed_more a.shape bs i l.to c.point_of-y.result l.coefs _
+    (subst (λ i. Tailed a.shape bs i l.to l.coefs) e l.invariant) c.point_of-y.ensures
+    (omega (arith, c.requires.3, c.requires.4, r_most a.shape c.requires.2, l.invariant.number, length-drop a.lead a.message.now)) (rw n at m.ensures))
+
+pub returns : goal.returns
+returns c =
+    let l = c.loop-i in
+    tailed_all c.args.shape (drop c.args.lead c.args.message.now) l.i l.to l.coefs (omega arith)
+    (omega (arith, c.requires.3, c.requires.4, length-drop c.args.lead c.args.message.now)) l.invariant

@@ -1,0 +1,9 @@
+use mathlib.Core.Path.{sym, ◌∙◌}
+use Rattle.code.proofs.Accepted.{decodable_of}
+use Rattle.repair.proofs.repair.Goals as goal
+
+pub repair_with-requires : goal.repair_with-requires
+repair_with-requires c = λ e. rw c.single.ensures (decodable_of c.args.code (sym c.code_refusal.ensures ∙ e))
+
+pub returns : goal.returns
+returns c = rw (c.code_refusal.ensures, c.single.ensures) at c.repair_with.ensures

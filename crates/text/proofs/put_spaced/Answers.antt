@@ -1,0 +1,14 @@
+use native.Mathlib.Omega.{arith}
+use Rattle.text.proofs.Puts.{puts_then}
+use Rattle.text.specs.Text.{ascii, spaced}
+use Rattle.text.proofs.put_spaced.Goals as goal
+
+pub returns : goal.returns
+unfolding spaced ascii
+returns c =
+    let a = c.args in
+    let p = c.put-next.ensures in
+    let r = c.put_number.ensures in (
+      puts_then p r.0 (omega arith),
+      omega (arith, p.end, r.1),
+    )

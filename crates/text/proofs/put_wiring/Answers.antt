@@ -1,0 +1,21 @@
+use mathlib.Core.Path.{sym, ap}
+use mathlib.Core.Bool.{cond}
+use mathlib.Core.List.{[]}
+use native.Mathlib.Omega.{arith}
+use borrow.Author.Tests.{eq-eqb, ne_eqb}
+use Rattle.text.specs.Text.{spaced, wiring_mark}
+use Rattle.text.proofs.Puts.{puts_as, puts_none}
+use Rattle.text.proofs.put_wiring.Goals as goal
+
+pub returns-then-wiring-ne1 : goal.returns-then-wiring-ne1
+unfolding wiring_mark
+returns-then-wiring-ne1 c =
+    let a = c.args in
+    (puts_as (ap (λ b. cond b (spaced a.wiring) []) (sym (ne_eqb a.wiring 1 c.if-wiring-ne1.true))) (puts_none a.text.now a.at), omega arith)
+
+pub returns : goal.returns
+unfolding wiring_mark
+returns c =
+    let a = c.args in
+    let p = c.put_spaced.ensures in
+    (puts_as (ap (λ b. cond b (spaced a.wiring) []) (sym (eq-eqb a.wiring 1 c.if-wiring-ne1.false))) p.0, p.1)
