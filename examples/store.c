@@ -1,6 +1,6 @@
 /* store: keeps a file on many drives, loses some, and gets the file back.
  *
- * Build, with the library installed (tools/install PREFIX), or from its folder after rt staticlib latsefidy:
+ * Build, with the library installed (tools/install PREFIX), or from its folder after tools/staticlib:
  *
  *     cc -std=c11 -O2 examples/store.c $(pkg-config --cflags --libs latsefidy) -o store
  *     cc -std=c11 -O2 -Iinclude examples/store.c target/staticlib/liblatsefidy.a -o store

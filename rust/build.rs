@@ -2,7 +2,7 @@
 //!
 //! LATSEFIDY_LIB_DIR is the archive's folder (default ../target/staticlib; a relative one counts from
 //! this crate's folder). LATSEFIDY_LEVEL is x86-64-v3 or x86-64-v4 for the archive that
-//! `tools/build-for` writes; without it the archive is the one that `rt staticlib latsefidy` writes.
+//! `tools/build-for` writes; without it the archive is the one that `tools/staticlib` writes.
 
 use std::env::{self, VarError};
 use std::path::{Path, PathBuf};
@@ -27,7 +27,7 @@ fn variable(name: &str) -> Option<String> {
 /// The library's name for the linker, and the command that writes its archive.
 fn library(level: Option<&str>) -> (String, String) {
     match level {
-        None => ("latsefidy".into(), "rt staticlib latsefidy".into()),
+        None => ("latsefidy".into(), "tools/staticlib".into()),
         Some(level @ ("x86-64-v3" | "x86-64-v4")) => (format!("latsefidy-{level}"), format!("tools/build-for {level}")),
         Some(other) => fail(format!("LATSEFIDY_LEVEL is {other:?}: leave it unset, or say x86-64-v3 or x86-64-v4")),
     }

@@ -1,0 +1,13 @@
+use mathlib.Core.Path.{refl}
+use native.Mathlib.Omega.{arith}
+use Rattle.text.proofs.Puts.{front_end, front_text}
+use Rattle.preview_sheet.specs.Text.{short, written}
+use Rattle.preview_sheet.proofs.preview_sheet.Goals as goal
+
+pub returns-then-text-lt8420 : goal.returns-then-text-lt8420
+returns-then-text-lt8420 c = short (omega arith) refl refl refl
+
+pub returns : goal.returns
+returns c =
+    let p = c.put_preview-end.ensures.0 in
+    written (omega arith) refl (front_end p) (front_text p)
