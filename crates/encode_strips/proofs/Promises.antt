@@ -16,7 +16,6 @@ use Rattle.code.specs.declared.Shape.{Shape}
 use Rattle.code.specs.Codeword.{symbol, encoded}
 use Rattle.code.proofs.Answers.{fills_in}
 use Rattle.code.proofs.Codewords.{at_encoded}
-use Rattle.encode.specs.Encode.{EncodeSays}
 use Rattle.encode.proofs.Refusal.{encode_fills}
 use Rattle.strip_columns.specs.Strips.{encoded_strips}
 use Rattle.encode_strips.specs.Strips.{encode_strips_refusal, EncodeStripsSays}

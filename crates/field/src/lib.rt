@@ -1,3 +1,2 @@
 // The two fields: definitions in specs/, laws in proofs/. No code.
 #![tactic(auto)]
-

@@ -19,7 +19,7 @@ use Rattle.algebra.specs.Sequence.{at}
 use Rattle.algebra.proofs.Each.{each_index}
 use Rattle.field.specs.Field.{q, γ, power}
 use Rattle.code.specs.declared.Shape.{Shape}
-use Rattle.code.specs.Shape.{size, groups, room, wired, group, member, first, step, members, slot_at, point_at, point, mates}
+use Rattle.code.specs.Shape.{size, groups, room, wired, group, member, first, step, members, slot_at, point_at, mates}
 use Rattle.code.specs.Laws.{Placed}
 use Rattle.code.proofs.Places.{size_least, slot_at_is, slot_below, group_slot_at, member_slot_at}
 use Rattle.code.proofs.Bounds.{room_byte}

@@ -1,7 +1,6 @@
 use Prim.Native.Nat.{◌-◌}
 use native.Mathlib.Omega.{arith}
 use Rattle.algebra.proofs.Writing.{writing_none, writing_more, writing_done}
-use Rattle.annihilator.specs.Step.{shifted}
 use Rattle.annihilator.proofs.fill_row.Goals as goal
 
 pub loop-i-init : goal.loop-i-init

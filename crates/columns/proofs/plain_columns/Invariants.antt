@@ -1,6 +1,6 @@
 use mathlib.Core.Path.{◌≡◌}
 use Prim.Native.Nat.{◌-◌, ◌≤◌}
-use Rattle.algebra.specs.Sequence.{at, tabulate}
+use Rattle.algebra.specs.Sequence.{tabulate}
 use Rattle.columns.proofs.Columns.{sum_of}
 use Rattle.columns.proofs.plain_columns.Given as goal
 

@@ -1,8 +1,7 @@
 use mathlib.Core.Path.{◌∙◌}
 use Prim.Native.Nat.{◌-◌}
 use native.Mathlib.Omega.{arith}
-use lib.ListN.{length, length-set}
-use Rattle.code.specs.Shape.{size}
+use lib.ListN.{length-set}
 use Rattle.fitting.proofs.Pointing.{slot_byte, pointed_more}
 use Rattle.fitting.proofs.fill_group.Goals as goal
 

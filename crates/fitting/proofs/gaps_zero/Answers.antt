@@ -4,7 +4,6 @@ use Prim.Native.Nat.{◌+◌, ◌*◌, ◌-◌, ◌/◌}
 use native.Mathlib.Numerals.{add-one}
 use native.Mathlib.Omega.{arith}
 use borrow.Author.Tests.{eq-eqb, ne_eqb}
-use lib.Dec.{eqb}
 use Rattle.algebra.specs.Sequence.{at, every}
 use Rattle.algebra.proofs.Every.{every_not}
 use Rattle.fitting.specs.Step.{gap, gaps_zero}

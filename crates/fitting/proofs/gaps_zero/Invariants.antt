@@ -1,10 +1,9 @@
-use mathlib.Core.Path.{◌≡◌, ap}
+use mathlib.Core.Path.{◌≡◌}
 use mathlib.Core.Bool.{Bool, true}
 use mathlib.Core.List.{List}
 use Prim.Native.Nat.{ℕ, ◌+◌, ◌*◌, ◌-◌, ◌≤◌}
 use lib.Dec.{eqb}
 use Rattle.algebra.specs.Sequence.{at, every}
-use Rattle.fitting.specs.Step.{gap}
 use Rattle.fitting.proofs.gaps_zero.Given as goal
 
 -- the coefficient behind block j is 0

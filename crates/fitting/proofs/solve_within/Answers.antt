@@ -1,4 +1,3 @@
-use borrow.Author.Tests.{not-true, not-false}
 use mathlib.Core.Path.{sym, ◌∙◌}
 use Rattle.code.proofs.Bounds.{n_most}
 use Rattle.code.proofs.Fits.{kept_symbol}

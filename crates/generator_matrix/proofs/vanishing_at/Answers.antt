@@ -2,7 +2,6 @@ use mathlib.Core.Path.{ap, ◌∙◌}
 use Prim.Native.Nat.{◌-◌}
 use native.Mathlib.Omega.{arith}
 use Rattle.field.specs.Field.{minus, times}
-use Rattle.code.specs.Shape.{missing}
 use Rattle.code.proofs.Places.{missing_inside}
 use Rattle.code.proofs.Bounds.{room_byte}
 use Rattle.code.proofs.Vanishing.{vanish_none, vanish_more, vanish_done}

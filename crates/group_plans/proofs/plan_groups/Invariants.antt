@@ -1,4 +1,3 @@
-use mathlib.Core.Path.{ap}
 use Prim.Native.Nat.{◌-◌, ◌≤◌}
 use Rattle.group_plans.specs.Plan.{level_at}
 use Rattle.group_plans.proofs.Several.{Several}

@@ -7,7 +7,6 @@ use Rattle.code.specs.Shape.{size, group, point}
 use Rattle.code.proofs.Places.{group_slot_at, slot_inside}
 use Rattle.code.proofs.Bounds.{r_most}
 use Rattle.tile_evaluation.specs.Step.{PlanAt, TablesAt}
-use Rattle.group_plans.specs.Plan.{tables_for}
 use Rattle.group_values.specs.Value.{GroupStored}
 use Rattle.group_values.proofs.Storing.{slot_valued, group_none, group_more, tables_most, plan_room}
 use Rattle.group_values.proofs.write_group.Goals as goal

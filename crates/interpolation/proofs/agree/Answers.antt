@@ -1,7 +1,6 @@
 use mathlib.Core.Path.{sym, ◌∙◌}
 use Prim.Native.Nat.{◌-◌}
 use native.Mathlib.Omega.{arith}
-use Rattle.algebra.specs.Sequence.{at}
 use Rattle.interpolation.proofs.Marks.{agreed_more, agreed_not, agreed_all}
 use Rattle.interpolation.proofs.agree.Goals as goal
 

@@ -1,6 +1,5 @@
 use Prim.Native.Nat.{◌-◌}
 use native.Mathlib.Omega.{arith}
-use Rattle.algebra.specs.Sequence.{at}
 use Rattle.algebra.proofs.Writing.{writing_none, writing_more, writing_done}
 use Rattle.interpolation.proofs.load.Goals as goal
 

@@ -1,7 +1,7 @@
 use mathlib.Core.Path.{◌≡◌, ◌∙◌}
 use Prim.Native.Nat.{◌+◌, ◌-◌}
 use native.Mathlib.Omega.{arith}
-use lib.ListN.{length, length-set}
+use lib.ListN.{length-set}
 use Rattle.algebra.specs.Sequence.{at}
 use Rattle.interpolation.proofs.Shifting.{shifted_none, shifted_more}
 use Rattle.interpolation.proofs.shift.Goals as goal

@@ -1,4 +1,3 @@
-use mathlib.Core.Path.{ap}
 use Prim.Native.Nat.{◌-◌}
 use lib.ListN.{drop}
 use Rattle.lengthening.proofs.Tails.{Tailed}

@@ -1,10 +1,9 @@
-use mathlib.Core.Path.{◌≡◌, ap}
+use mathlib.Core.Path.{◌≡◌}
 use mathlib.Core.List.{List}
 use Prim.Native.Nat.{ℕ, ◌-◌, ◌≤◌}
 use Rattle.algebra.specs.Sequence.{count}
 use Rattle.code.specs.declared.Shape.{Shape}
-use Rattle.code.specs.Shape.{groups}
-use Rattle.code.specs.Pass.{repairs, passed}
+use Rattle.code.specs.Pass.{repairs}
 use Rattle.code.proofs.Passing.{passed_at, mark_at}
 use Rattle.mending.proofs.Spliced.{Upto}
 use Rattle.mending.proofs.mend_groups.Given as goal

@@ -1,6 +1,5 @@
 use Prim.Native.Nat.{◌-◌, ◌≤◌}
 use lib.ListN.{replicate}
-use Rattle.algebra.specs.Sequence.{at}
 use Rattle.algebra.proofs.Filling.{Filled}
 use Rattle.parity.proofs.Rows.{entry}
 use Rattle.parity.proofs.check_weights.Given as goal

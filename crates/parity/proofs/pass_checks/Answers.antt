@@ -4,7 +4,6 @@ use Prim.Native.Nat.{◌-◌}
 use native.Mathlib.Omega.{arith}
 use borrow.Author.Tests.{eq-eqb, ne_eqb}
 use lib.ListN.{length, take}
-use Rattle.algebra.specs.Sequence.{every}
 use Rattle.algebra.proofs.Every.{every_none, every_more, every_done, every_not}
 use Rattle.field.specs.Polynomial.{dotted}
 use Rattle.code.specs.Shape.{mates}

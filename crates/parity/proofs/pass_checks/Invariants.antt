@@ -1,8 +1,7 @@
-use mathlib.Core.Path.{◌≡◌, sym, ap}
+use mathlib.Core.Path.{◌≡◌}
 use mathlib.Core.Bool.{true}
 use Prim.Native.Nat.{◌-◌, ◌≤◌}
 use Rattle.algebra.specs.Sequence.{every}
-use Rattle.parity.specs.Parity.{passes}
 use Rattle.parity.proofs.Rows.{passes_check}
 use Rattle.parity.proofs.pass_checks.Given as goal
 

@@ -2,7 +2,7 @@ use mathlib.Core.Path.{◌≡◌}
 use mathlib.Core.Bool.{Bool}
 use mathlib.Core.List.{List}
 use Prim.Native.Nat.{ℕ, ◌+◌, ◌*◌, ◌-◌, ◌≤◌}
-use Rattle.algebra.specs.Sequence.{at, count}
+use Rattle.algebra.specs.Sequence.{count}
 use Rattle.code.specs.Decoding.{lost}
 use Rattle.questions.proofs.losses_from.Given as goal
 

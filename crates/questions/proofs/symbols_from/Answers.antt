@@ -1,5 +1,4 @@
 use mathlib.Core.Path.{◌≡◌, sym, ap₂}
-use mathlib.Core.Logic.{⊎_elim}
 use mathlib.Core.Bool.{◌||◌}
 use Prim.Native.Nat.{ℕ, ◌+◌, ◌*◌, ◌-◌, ◌<◌}
 use native.Mathlib.Decide.{ℕ_discrete}

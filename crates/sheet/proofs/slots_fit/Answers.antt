@@ -2,7 +2,6 @@ use mathlib.Core.Path.{sym, ap, ◌∙◌}
 use mathlib.Core.Bool.{true}
 use Prim.Native.Nat.{◌-◌}
 use native.Mathlib.Omega.{arith}
-use Rattle.algebra.specs.Sequence.{every}
 use Rattle.words.specs.Word.{slot_fits}
 use Rattle.sheet.specs.Sheet.{middle_word}
 use Rattle.algebra.proofs.Every.{every_not, every_none, every_more, every_done}

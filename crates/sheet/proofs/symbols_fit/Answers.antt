@@ -4,7 +4,6 @@ use Prim.Native.Nat.{◌-◌}
 use native.Mathlib.Omega.{arith}
 use lib.Dec.{ltb}
 use borrow.Author.Tests.{lt-ltb, le-ltb}
-use Rattle.algebra.specs.Sequence.{every}
 use Rattle.words.specs.Word.{word_symbol}
 use Rattle.sheet.specs.Sheet.{middle_word}
 use Rattle.algebra.proofs.Every.{every_not, every_none, every_more, every_done}

@@ -5,7 +5,6 @@ use lib.ListN.{take}
 use Rattle.algebra.proofs.Booleans.{so}
 use Rattle.algebra.proofs.Below.{all_below_take}
 use Rattle.field.specs.Field.{q}
-use Rattle.code.specs.Shape.{missing}
 use Rattle.code.proofs.Places.{missing_inside}
 use Rattle.code.proofs.Bounds.{r_most, room_byte}
 use Rattle.shortening.proofs.Quotient.{Quotient, quotient_none, quotient_more, quotient_done}

@@ -2,9 +2,8 @@ use mathlib.Core.Path.{◌≡◌, refl, sym, ap, ap₂, ◌∙◌}
 use mathlib.Core.Bool.{true}
 use Prim.Native.Nat.{◌*◌, ◌-◌}
 use native.Mathlib.Omega.{arith}
-use borrow.Author.Tests.{not-true, not-false}
 use lib.ListN.{length}
-use Rattle.algebra.specs.Sequence.{all_below, every}
+use Rattle.algebra.specs.Sequence.{all_below}
 use Rattle.algebra.proofs.Every.{every_none, every_more, every_done, every_not}
 use Rattle.field.specs.Polynomial.{weighed}
 use Rattle.row_reduction.proofs.Reducing.{length_row}

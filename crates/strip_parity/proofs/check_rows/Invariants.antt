@@ -1,4 +1,3 @@
-use mathlib.Core.Path.{ap}
 use Prim.Native.Nat.{◌-◌, ◌≤◌}
 use Rattle.strip_parity.specs.Step.{CheckRows}
 use Rattle.strip_parity.proofs.check_rows.Given as goal

@@ -1,7 +1,6 @@
 use mathlib.Core.Path.{◌≡◌}
 use Prim.Native.Nat.{◌-◌, ◌≤◌}
 use Rattle.field.specs.Field.{power}
-use Rattle.tile_evaluation.specs.Step.{weight}
 use Rattle.tile_evaluation.proofs.Weights.{Weighed}
 use Rattle.tile_evaluation.proofs.power_weights.Given as goal
 

@@ -1,7 +1,7 @@
 use mathlib.Core.Path.{◌≡◌}
 use Prim.Native.Nat.{ℕ, ◌-◌, ◌≤◌}
 use lib.ListN.{length}
-use Rattle.algebra.specs.Sequence.{at, tabulate}
+use Rattle.algebra.specs.Sequence.{tabulate}
 use Rattle.tiles.proofs.Tiles.{row_added}
 use Rattle.tiles.proofs.add_row.Given as goal
 

@@ -9,7 +9,6 @@ use Rattle.code.specs.Shape.{members, mates}
 use Rattle.code.specs.Repair.{weights}
 use Rattle.code.proofs.Places.{groups_least, slot_room}
 use Rattle.code.proofs.Mates.{length_mates}
-use Rattle.layout.specs.Step.{mate_steps}
 use Rattle.layout.proofs.Numbers.{worked_below, steps_below}
 use Rattle.weights.proofs.Weighing.{length_weights, turned_weight}
 use Rattle.weights.proofs.Sixteen.{sixteen_of}

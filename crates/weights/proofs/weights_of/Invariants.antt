@@ -1,6 +1,5 @@
 use Prim.Native.Nat.{ℕ, ◌+◌, ◌*◌, ◌-◌, ◌<◌}
 use lib.ListN.{replicate}
-use Rattle.algebra.specs.Sequence.{at}
 use Rattle.algebra.proofs.Filling.{Filled}
 use Rattle.field.specs.Field.{γ, minus, power}
 use Rattle.code.specs.Shape.{members}
