@@ -2,7 +2,7 @@
 // gives exit status 2; decimal numbers read from input (words); text put together in a buffer (text).
 #![tactic(auto)]
 
-ghost use Rattle.std.specs.Prelude.{◌≡◌, ◌<◌, ◌≤◌, false, length, take};
+ghost use Rattle.std.specs.Prelude.{◌≡◌, ◌<◌, ◌≤◌, IfSome, false, length, take};
 ghost use Rattle.std.specs.Io.KnownBytes.{Appends, Consumes, IsAtEnd};
 
 use std::io::{Read, Write};
@@ -32,11 +32,12 @@ fn read_once<R: Read>(reader: &mut R, buf: &mut [u8]) -> Input
     }
 }
 
-// Reads until the buffer is full, the input ends or a read fails.
+// Reads until the buffer is full, the input ends or a read fails. Where none fails, what was read is the input's front.
 pub fn read_input<R: Read>(reader: &mut R, buf: &mut [u8]) -> Input
     ensures bound { result.len ≤ length buf.new }
     ensures bytes { Consumes (R.remaining reader.old) (R.remaining reader.new) (take result.len buf.new) }
     ensures end { result.failed ≡ false → result.len < length buf.new → IsAtEnd (R.remaining reader.new) }
+    ensures front { result.failed ≡ false → IfSome (R.remaining reader.old) (λ xs. take result.len buf.new ≡ take (length buf.new) xs) }
 {
     let mut len: usize = 0;
     while len < buf.len() {
