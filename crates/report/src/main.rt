@@ -1,7 +1,7 @@
 // The report program: reads a stripe sheet from standard input and writes its report. A refused sheet is a report like any other.
 #![tactic(auto)]
 
-ghost use Rattle.std.specs.Prelude.{◌×◌, ◌≡◌, ◌≤◌, IfSome, List, ℕ, take};
+ghost use Rattle.std.specs.Prelude.{◌≡◌, ◌≤◌, IfSome, List, ℕ, take};
 ghost use Rattle.std.specs.Io.KnownBytes.{Appends};
 ghost use Rattle.reporting.specs.Report.{Report};
 
