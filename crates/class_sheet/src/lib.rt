@@ -76,14 +76,12 @@ fn refuse_length(text: &mut [u8], symbols: usize, k: u32) -> Written {
 fn first_large(message: &[u8]) -> usize
     ensures { result ≤ length message.now }
 {
-    let mut i: usize = 0;
-    while i < message.len() {
-        if message[i] > 12 {
+    for (i, &symbol) in message.iter().enumerate() {
+        if symbol > 12 {
             return i;
         }
-        i += 1;
     }
-    i
+    message.len()
 }
 
 // Puts the sheet of a shape over thirteen and a message, or the sentence of the message's refusal.

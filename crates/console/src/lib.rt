@@ -2,8 +2,10 @@
 // gives exit status 2; decimal numbers read from input (words); text put together in a buffer (text).
 #![tactic(auto)]
 
-ghost use Rattle.std.specs.Prelude.{◌≤◌, ◌≡◌, length};
-ghost use Rattle.io.specs.Counts.{IsPrefixLen};
+ghost use Rattle.std.specs.Prelude.{◌≡◌, ◌<◌, ◌≤◌, IfSome, false, length, take};
+ghost use Rattle.std.specs.Io.KnownBytes.{Appends, Consumes, IsAtEnd};
+
+use std::io::{Read, Write};
 
 pub mod text;
 pub mod words;
@@ -15,25 +17,31 @@ pub struct Input {
     pub len: usize,
 }
 
-// One read of standard input, of no bytes where it fails or the input ends.
-fn read_once(buf: &mut [u8]) -> Input
-    ensures { result.len ≤ length buf.new }
+// One read, of no bytes where it fails, the input ends or the buffer has no room.
+fn read_once<R: Read>(reader: &mut R, buf: &mut [u8]) -> Input
+    ensures bound { result.len ≤ length buf.new }
+    ensures bytes { Consumes (R.remaining reader.old) (R.remaining reader.new) (take result.len buf.new) }
+    ensures end { result.failed ≡ false → result.len ≡ 0 → 0 < length buf.new → IsAtEnd (R.remaining reader.new) }
 {
-    let got = libc::read(0, buf);
-    let len = io::count(got, buf);
-    Input {
-        failed: got < 0,
-        len,
+    match reader.read(buf) {
+        Ok(len) => Input { failed: false, len },
+        Err(_) => Input {
+            failed: true,
+            len: 0,
+        },
     }
 }
 
-// Reads standard input until the buffer is full, the input ends or a read fails.
-pub fn read_input(buf: &mut [u8]) -> Input
-    ensures { IsPrefixLen result.len buf.new }
+// Reads until the buffer is full, the input ends or a read fails. Where none fails, what was read is the input's front.
+pub fn read_input<R: Read>(reader: &mut R, buf: &mut [u8]) -> Input
+    ensures bound { result.len ≤ length buf.new }
+    ensures bytes { Consumes (R.remaining reader.old) (R.remaining reader.new) (take result.len buf.new) }
+    ensures end { result.failed ≡ false → result.len < length buf.new → IsAtEnd (R.remaining reader.new) }
+    ensures front { result.failed ≡ false → IfSome (R.remaining reader.old) (λ xs. take result.len buf.new ≡ take (length buf.new) xs) }
 {
     let mut len: usize = 0;
     while len < buf.len() {
-        let turn = read_once(&mut buf[len..]);
+        let turn = read_once(reader, &mut buf[len..]);
         if turn.len == 0 {
             return Input {
                 failed: turn.failed,
@@ -56,31 +64,38 @@ pub fn part(bytes: &[u8], start: usize, end: usize) -> &[u8] {
     &bytes[start..end]
 }
 
-// Says what a program has to say on standard error: its name, and a sentence.
-pub fn complain(name: &[u8], sentence: &[u8]) {
-    io::write_all(2, name);
-    io::write_all(2, b": ");
-    io::write_all(2, sentence);
-    io::write_all(2, b"\n");
+// Says what a program has to say on standard error: its name, and a sentence. What cannot be written there is left out.
+pub fn complain<E: Write>(errors: &mut E, name: &[u8], sentence: &[u8]) {
+    let _ = errors.write_all(name);
+    let _ = errors.write_all(b": ");
+    let _ = errors.write_all(sentence);
+    let _ = errors.write_all(b"\n");
 }
 
 // The exit status of a program that could not read its input.
-pub fn unread(name: &[u8]) -> u32
+pub fn unread<E: Write>(errors: &mut E, name: &[u8]) -> u8
     ensures { result ≡ 2 }
 {
-    complain(name, b"standard input cannot be read");
+    complain(errors, name, b"standard input cannot be read");
     2
 }
 
 // Writes the first n bytes of a text on standard output: the exit status 0, or 2 where that fails.
-pub fn write_output(name: &[u8], text: &[u8], n: usize) -> u32
-    ensures { result ≤ 2 }
+pub fn write_output<W: Write, E: Write>(
+    output: &mut W,
+    errors: &mut E,
+    name: &[u8],
+    text: &[u8],
+    n: usize,
+) -> u8
+    ensures status { result ≤ 2 }
+    ensures written { result ≡ 0 → Appends (W.contents output.old) (W.contents output.new) (take n text.now) }
 {
     if n <= text.len() {
-        if io::write_all(1, &text[..n]) {
+        if output.write_all(&text[..n]).is_ok() {
             return 0;
         }
     }
-    complain(name, b"standard output cannot be written");
+    complain(errors, name, b"standard output cannot be written");
     2
 }

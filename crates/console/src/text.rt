@@ -12,10 +12,8 @@ pub fn put_byte(text: &mut [u8], at: usize, b: u8) -> usize {
 // Puts bytes.
 pub fn put(text: &mut [u8], at: usize, bytes: &[u8]) -> usize {
     let mut next = at;
-    let mut i: usize = 0;
-    while i < bytes.len() {
-        next = put_byte(text, next, bytes[i]);
-        i += 1;
+    for &b in bytes {
+        next = put_byte(text, next, b);
     }
     next
 }
@@ -55,10 +53,8 @@ pub fn wide(b: u8) -> u32 {
 // Puts a space and a numeral for each byte.
 pub fn put_all(text: &mut [u8], at: usize, bytes: &[u8]) -> usize {
     let mut next = at;
-    let mut i: usize = 0;
-    while i < bytes.len() {
-        next = put_spaced(text, next, wide(bytes[i]));
-        i += 1;
+    for &b in bytes {
+        next = put_spaced(text, next, wide(b));
     }
     next
 }
@@ -71,13 +67,11 @@ pub fn end_line(text: &mut [u8], at: usize) -> usize {
 // Puts a word of the input, cut behind its twentieth byte; control characters become question marks.
 pub fn put_word(text: &mut [u8], at: usize, word: &[u8]) -> usize {
     let mut next = at;
-    let mut i: usize = 0;
-    while i < word.len() {
+    for (i, &b) in word.iter().enumerate() {
         if i == 20 {
             return put(text, next, b"..");
         }
-        next = put_byte(text, next, shown(word[i]));
-        i += 1;
+        next = put_byte(text, next, shown(b));
     }
     next
 }

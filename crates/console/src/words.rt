@@ -57,10 +57,8 @@ fn word_from(input: &[u8], at: usize) -> Word {
 // Word i of the input, from 0.
 fn word_at(input: &[u8], i: usize) -> Word {
     let mut word = word_from(input, 0);
-    let mut j: usize = 0;
-    while j < i {
+    for _ in 0..i {
         word = word_from(input, word.end);
-        j += 1;
     }
     word
 }
@@ -69,17 +67,15 @@ fn word_at(input: &[u8], i: usize) -> Word {
 pub fn count_words(input: &[u8]) -> usize
     ensures { result ≤ 4096 }
 {
-    let mut count: usize = 0;
     let mut at: usize = 0;
-    while count < MOST {
+    for count in 0..MOST {
         let word = word_from(input, at);
         if word.start >= input.len() {
             return count;
         }
         at = word.end;
-        count += 1;
     }
-    count
+    MOST
 }
 
 // The bytes of word i, from 0.
@@ -93,12 +89,10 @@ fn same(a: &[u8], b: &[u8]) -> bool {
     if a.len() != b.len() {
         return false;
     }
-    let mut i: usize = 0;
-    while i < a.len() {
+    for i in 0..a.len() {
         if a[i] != b[i] {
             return false;
         }
-        i += 1;
     }
     true
 }
@@ -131,24 +125,20 @@ fn with_digit(value: u8, b: u8) -> u8 {
 // The number of a word of digits, 255 at the most.
 fn value_of(word: &[u8]) -> u8 {
     let mut value: u8 = 0;
-    let mut i: usize = 0;
-    while i < word.len() {
-        value = with_digit(value, word[i]);
-        i += 1;
+    for &b in word {
+        value = with_digit(value, b);
     }
     value
 }
 
 // The first of so many words that is no decimal number, or the number of words.
 pub fn first_wrong(input: &[u8], count: usize) -> usize {
-    let mut i: usize = 0;
-    while i < count {
+    for i in 0..count {
         if !is_decimal(bytes_at(input, i)) {
             return i;
         }
-        i += 1;
     }
-    i
+    count
 }
 
 // The lesser of two numbers.
@@ -164,9 +154,7 @@ fn least(a: usize, b: usize) -> usize
 // Stores the numbers of the first words, of which there are so many, as far as they fit.
 pub fn read_numbers(input: &[u8], count: usize, numbers: &mut [u8]) {
     let most = least(count, numbers.len());
-    let mut i: usize = 0;
-    while i < most {
+    for i in 0..most {
         numbers[i] = value_of(bytes_at(input, i));
-        i += 1;
     }
 }

@@ -23,10 +23,8 @@ fn put_power(text: &mut [u8], at: usize, name: &[u8], e: u32) -> usize {
 // The twelve powers of 2.
 fn put_powers(text: &mut [u8], at: usize) -> usize {
     let mut next = at;
-    let mut e: u32 = 0;
-    while e < 12 {
+    for e in 0..12 {
         next = put_spaced(text, next, wide(tables::generator_power(0, e)));
-        e += 1;
     }
     next
 }
@@ -37,10 +35,8 @@ fn put_points(text: &mut [u8], at: usize, shape: Shape, group: u32, from: u32, t
 {
     let powers = tables::power_table();
     let mut next = at;
-    let mut i = from;
-    while i < to {
+    for i in from..to {
         next = put_spaced(text, next, wide(layout::point_at(shape, group, i, &powers)));
-        i += 1;
     }
     next
 }
@@ -51,10 +47,8 @@ fn put_group_slots(text: &mut [u8], at: usize, shape: Shape, group: u32) -> usiz
 {
     let members = layout::members_of(shape, group);
     let mut next = at;
-    let mut i: u32 = 0;
-    while i < members {
+    for i in 0..members {
         next = put_spaced(text, next, layout::slot_at(shape, group, i));
-        i += 1;
     }
     next
 }
@@ -76,10 +70,8 @@ fn put_slot_points(text: &mut [u8], at: usize, shape: Shape) -> usize
 {
     let powers = tables::power_table();
     let mut next = at;
-    let mut slot: u32 = 0;
-    while slot < shape.n {
+    for slot in 0..shape.n {
         next = put_spaced(text, next, wide(layout::point_of(shape, slot, &powers)));
-        slot += 1;
     }
     next
 }
@@ -127,10 +119,8 @@ fn put_groups(text: &mut [u8], at: usize, shape: Shape) -> usize
 {
     let groups = layout::groups_of(shape);
     let mut next = at;
-    let mut group: u32 = 0;
-    while group < groups {
+    for group in 0..groups {
         next = put_group(text, next, shape, group);
-        group += 1;
     }
     next
 }
@@ -142,12 +132,10 @@ fn put_factors(text: &mut [u8], at: usize, shape: Shape) -> usize
     let powers = tables::power_table();
     let room = layout::room_of(shape);
     let mut next = at;
-    let mut place = shape.n;
-    while place < room {
+    for place in shape.n..room {
         next = put(text, next, b" (x -");
         next = put_spaced(text, next, wide(layout::point_of(shape, place, &powers)));
         next = put(text, next, b")");
-        place += 1;
     }
     next
 }
@@ -211,11 +199,9 @@ fn put_polynomial(text: &mut [u8], at: usize, shape: Shape, message: &[u8]) -> u
 {
     let filled = message.len() as u32 + layout::missing_of(shape);
     let mut next = at;
-    let mut m: usize = 0;
-    while m < message.len() {
-        next = put_spaced(text, next, wide(message[m]));
+    for (m, &symbol) in message.iter().enumerate() {
+        next = put_spaced(text, next, wide(symbol));
         next = put_basis(text, next, shape, filled, m as u32);
-        m += 1;
     }
     next
 }
@@ -226,10 +212,8 @@ fn put_mates(text: &mut [u8], at: usize, shape: Shape, slot: u32) -> usize
 {
     let number = layout::mates_number(shape, slot);
     let mut next = at;
-    let mut i: u32 = 0;
-    while i < number {
+    for i in 0..number {
         next = put_spaced(text, next, layout::mate_of(shape, slot, i));
-        i += 1;
     }
     next
 }
@@ -261,10 +245,8 @@ fn put_slots(text: &mut [u8], at: usize, shape: Shape) -> usize
     requires { Mending shape }
 {
     let mut next = at;
-    let mut slot: u32 = 0;
-    while slot < shape.n {
+    for slot in 0..shape.n {
         next = put_slot(text, next, shape, slot);
-        slot += 1;
     }
     next
 }

@@ -3,18 +3,20 @@
 
 ghost use Rattle.std.specs.Prelude.{◌<◌};
 
+use std::io::{Result, Write};
+
 // The report of one sheet.
-fn put_report(sheet: &[u8]) {
+fn put_report<W: Write>(output: &mut W, sheet: &[u8]) -> Result<()> {
     let mut text = [0u8; 1032];
     let answer = reporting::report(sheet, &mut text);
-    show::put_front(&text, answer.value as usize);
+    show::put_front(output, &text, answer.value as usize)
 }
 
 // The preview of one sheet.
-fn put_preview(sheet: &[u8]) {
+fn put_preview<W: Write>(output: &mut W, sheet: &[u8]) -> Result<()> {
     let mut text = [0u8; 8420];
     let answer = preview_sheet::preview_sheet(sheet, &mut text);
-    show::put_front(&text, answer.value as usize);
+    show::put_front(output, &text, answer.value as usize)
 }
 
 // A byte as a length.
@@ -25,36 +27,35 @@ fn wide(x: u8) -> usize
 }
 
 // The sheet at a place, if it is there: the place after it, or the input's end.
-fn put_sheet(input: &[u8], at: usize) -> usize {
+fn put_sheet<W: Write>(output: &mut W, input: &[u8], at: usize) -> Result<usize> {
     let end = input.len();
     if end < 2 {
-        return end;
+        return Ok(end);
     }
     if end - 2 < at {
-        return end;
+        return Ok(end);
     }
     let start = at + 2;
     let n = wide(input[at]) * 256 + wide(input[at + 1]);
     if end - start < n {
-        return end;
+        return Ok(end);
     }
-    put_report(&input[start..start + n]);
-    put_preview(&input[start..start + n]);
-    start + n
+    put_report(output, &input[start..start + n])?;
+    put_preview(output, &input[start..start + n])?;
+    Ok(start + n)
 }
 
 // The reports and previews of the first 64 sheets.
-fn put_sheets(input: &[u8]) {
+fn put_sheets<W: Write>(output: &mut W, input: &[u8]) -> Result<()> {
     let mut at: usize = 0;
-    let mut turns: u32 = 0;
-    while turns < 64 {
-        at = put_sheet(input, at);
-        turns += 1;
+    for _ in 0..64 {
+        at = put_sheet(output, input, at)?;
     }
+    Ok(())
 }
 
-fn main() {
-    let mut buffer = io::large_buffer();
-    let n = io::read_full(0, &mut buffer);
-    put_sheets(&buffer[..n]);
+fn main(rt: HostRuntime) -> Result<()> {
+    let mut buffer = [0u8; 65536];
+    let read = console::read_input(&mut rt.stdin(), &mut buffer);
+    put_sheets(&mut rt.stdout(), &buffer[..read.len])
 }

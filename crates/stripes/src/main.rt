@@ -3,6 +3,7 @@
 #![tactic(auto)]
 
 use code::Code;
+use std::io::Result;
 use vectors::Call;
 
 mod few;
@@ -43,10 +44,10 @@ fn run_all(input: &[u8], counts: &mut [u32]) {
     }
 }
 
-fn main() {
+fn main(rt: HostRuntime) -> Result<()> {
     let mut room = vectors::room();
-    let n = io::read_full(0, &mut room);
+    let read = console::read_input(&mut rt.stdin(), &mut room);
     let mut counts = [0u32; 32];
-    run_all(&room[..n], &mut counts);
-    tally::put_lines(&counts);
+    run_all(&room[..read.len], &mut counts);
+    tally::put_lines(&mut rt.stdout(), &counts)
 }

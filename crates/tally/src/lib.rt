@@ -2,6 +2,7 @@
 // Number i of the counts is how often call i was made, from 1 to 15, and number 16 + i is how often it mismatched.
 #![tactic(auto)]
 
+use std::io::{Result, Write};
 
 // One more.
 fn more(n: u32) -> u32 {
@@ -38,36 +39,35 @@ fn number_at(counts: &[u32], i: usize) -> u32 {
 }
 
 // The line of a call: its name, how often it was made, and how often it mismatched.
-fn put_line(name: &[u8], counts: &[u32], call: u8) {
-    io::write_all(1, name);
-    io::write_all(1, b" calls ");
-    show::put(number_at(counts, call as usize));
-    io::write_all(1, b"mismatches ");
-    io::print_decimal(1, number_at(counts, call as usize + 16) as u64);
-    io::write_all(1, b"\n");
+fn put_line<W: Write>(output: &mut W, name: &[u8], counts: &[u32], call: u8) -> Result<()> {
+    output.write_all(name)?;
+    output.write_all(b" calls ")?;
+    show::put(output, number_at(counts, call as usize))?;
+    let mismatches = number_at(counts, call as usize + 16);
+    writeln!(output, "mismatches {mismatches}")
 }
 
 // The lines of calls 1 to 6.
-fn put_low(counts: &[u32]) {
-    put_line(b"encode", counts, 1);
-    put_line(b"weights", counts, 2);
-    put_line(b"repair", counts, 3);
-    put_line(b"rebuild", counts, 4);
-    put_line(b"view", counts, 5);
-    put_line(b"local_pass", counts, 6);
+fn put_low<W: Write>(output: &mut W, counts: &[u32]) -> Result<()> {
+    put_line(output, b"encode", counts, 1)?;
+    put_line(output, b"weights", counts, 2)?;
+    put_line(output, b"repair", counts, 3)?;
+    put_line(output, b"rebuild", counts, 4)?;
+    put_line(output, b"view", counts, 5)?;
+    put_line(output, b"local_pass", counts, 6)
 }
 
 // The lines of calls 7, 8, 10, 11 and 15; the record, the report, the previews and the encode of strips are not made here.
-fn put_high(counts: &[u32]) {
-    put_line(b"decode", counts, 7);
-    put_line(b"grade", counts, 8);
-    put_line(b"read_sheet", counts, 10);
-    put_line(b"write_sheet", counts, 11);
-    put_line(b"decode_near", counts, 15);
+fn put_high<W: Write>(output: &mut W, counts: &[u32]) -> Result<()> {
+    put_line(output, b"decode", counts, 7)?;
+    put_line(output, b"grade", counts, 8)?;
+    put_line(output, b"read_sheet", counts, 10)?;
+    put_line(output, b"write_sheet", counts, 11)?;
+    put_line(output, b"decode_near", counts, 15)
 }
 
 // The lines of all calls.
-pub fn put_lines(counts: &[u32]) {
-    put_low(counts);
-    put_high(counts);
+pub fn put_lines<W: Write>(output: &mut W, counts: &[u32]) -> Result<()> {
+    put_low(output, counts)?;
+    put_high(output, counts)
 }

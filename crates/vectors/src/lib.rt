@@ -40,10 +40,8 @@ fn behind(record: &[u8], at: usize) -> usize {
 // The place of buffer i of those that start at a place.
 fn buffer_at(record: &[u8], start: usize, i: usize) -> usize {
     let mut at = start;
-    let mut left = i;
-    while 0 < left {
+    for _ in 0..i {
         at = behind(record, at);
-        left -= 1;
     }
     at
 }
@@ -80,10 +78,8 @@ fn at_most(length: usize, most: usize) -> usize
 
 // Fills a buffer with what stands at a place.
 fn fill(record: &[u8], at: usize, buffer: &mut [u8]) {
-    let mut j: usize = 0;
-    while j < buffer.len() {
+    for j in 0..buffer.len() {
         buffer[j] = byte(record, at, j);
-        j += 1;
     }
 }
 
@@ -97,12 +93,10 @@ fn wanted(record: &[u8], before: usize, after: usize, j: usize) -> u8 {
 
 // Whether a buffer is what it should be after the call, by what stands at two places.
 fn same(record: &[u8], before: usize, after: usize, buffer: &[u8]) -> bool {
-    let mut j: usize = 0;
-    while j < buffer.len() {
+    for j in 0..buffer.len() {
         if buffer[j] != wanted(record, before, after, j) {
             return false;
         }
-        j += 1;
     }
     true
 }
@@ -123,10 +117,8 @@ fn wide_number(record: &[u8], at: usize, j: usize) -> u32 {
 
 // Fills a buffer of numbers with what stands at a place.
 fn fill_wide(record: &[u8], at: usize, buffer: &mut [u32]) {
-    let mut j: usize = 0;
-    while j < buffer.len() {
+    for j in 0..buffer.len() {
         buffer[j] = wide_number(record, at, j);
-        j += 1;
     }
 }
 
@@ -140,12 +132,10 @@ fn wanted_number(record: &[u8], before: usize, after: usize, j: usize) -> u32 {
 
 // Whether a buffer of numbers is what it should be after the call, by what stands at two places.
 fn same_wide(record: &[u8], before: usize, after: usize, buffer: &[u32]) -> bool {
-    let mut j: usize = 0;
-    while j < buffer.len() {
+    for j in 0..buffer.len() {
         if buffer[j] != wanted_number(record, before, after, j) {
             return false;
         }
-        j += 1;
     }
     true
 }

@@ -1,0 +1,58 @@
+// The classroom program: reads r, n, k and a message from standard input and writes the sheet that a class works on paper.
+#![tactic(auto)]
+
+ghost use Rattle.std.specs.Prelude.{◌≤◌};
+
+use std::io::{Read, Write};
+use std::process::ExitCode;
+
+// The exit status of the program on an input that was read: 0 and the sheet, 1 and a sentence, or 2 where writing fails.
+fn answer<W: Write, E: Write>(input: &[u8], output: &mut W, errors: &mut E) -> u8
+    ensures { result ≤ 2 }
+{
+    let mut text = [0u8; 4096];
+    let written = class_sheet::classroom(input, &mut text);
+    if written.len >= 4096 {
+        console::complain(
+            errors,
+            b"classroom",
+            b"the sheet is longer than 4,095 bytes",
+        );
+        return 2;
+    }
+    if written.status == 0 {
+        return console::write_output(output, errors, b"classroom", &text, written.len);
+    }
+    console::complain(errors, b"classroom", console::part(&text, 0, written.len));
+    1
+}
+
+// The program's exit status: 0, 1 where the input is refused, or 2 where reading or writing fails.
+pub fn classroom_program<R: Read, W: Write, E: Write>(
+    input: &mut R,
+    output: &mut W,
+    errors: &mut E,
+) -> u8
+    ensures { result ≤ 2 }
+{
+    let mut numbers = [0u8; 4097];
+    let read = console::read_input(input, &mut numbers);
+    if read.failed {
+        return console::unread(errors, b"classroom");
+    }
+    let n = read.len;
+    if n > 4096 {
+        console::complain(
+            errors,
+            b"classroom",
+            b"the input is longer than 4,096 bytes",
+        );
+        return 1;
+    }
+    answer(&numbers[..n], output, errors)
+}
+
+fn main(rt: HostRuntime) -> ExitCode {
+    let status = classroom_program(&mut rt.stdin(), &mut rt.stdout(), &mut rt.stderr());
+    ExitCode::from(status)
+}

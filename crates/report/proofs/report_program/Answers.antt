@@ -1,0 +1,26 @@
+-- The text that is written is the report of the input's front.
+use Rattle.std.proofs.Common.{◌≡◌, ◌≤◌, ◌∙◌, ℕ, List, IfSome, take, drop, length, ap, subst, arith, rules, le_refl, take_all}
+use Rattle.std.proofs.lemmas.Option.{IfSome_then}
+use Rattle.std.specs.Io.KnownBytes.{Appends}
+use Rattle.std.specs.Prelude.{Option}
+use lib.Seq.{take-append-le}
+use Rattle.code.specs.declared.Answer.{Answer}
+use Rattle.reporting.specs.Report.{Report, ReportSays}
+use Rattle.reporting.specs.Report.ReportSays.{short, written}
+use Rattle.report.proofs.report_program.Goals as goal
+
+-- in a text that is long enough stands a report, as long as the answer says
+in_front : (s t z : List ℕ) (x : Answer) → 1032 ≤ length t → ReportSays s t z x → (bs : List ℕ) × Report s bs × (take x.value z ≡ bs)
+in_front s t z x long (short few _ _ _) = absurd (omega (arith, long, few))
+in_front s t z x long (written {bs} _ is _ value text) =
+    (bs, is, ap (λ n. take n z) value ∙ ap (take (length bs)) text ∙ take-append-le (length bs) bs (drop (length bs) t) (le_refl _) ∙ take_all (length bs) bs (le_refl _))
+
+-- the report of what was read, which is the front of the input, where a writer that held old now holds new
+of_input : (input old new : Option (List ℕ)) (n : ℕ) (front : List ℕ) → n ≡ 1032 → IfSome input (λ xs. front ≡ take n xs) → (bs : List ℕ) → Report front bs → Appends old new bs → IfSome input (λ xs. (bs : List ℕ) × Report (take 1032 xs) bs × Appends old new bs)
+of_input input old new n front whole read bs is wrote =
+    IfSome_then input {Q = λ xs. (bs : List ℕ) × Report (take 1032 xs) bs × Appends old new bs} read (λ xs same. (bs, subst (λ s. Report s bs) (same ∙ ap (λ n. take n xs) whole) is, wrote))
+
+pub returns-clause-written : goal.returns-clause-written
+returns-clause-written g c = λ zero.
+    let said = in_front _ _ _ _ (search rules) c.report-answer.ensures in
+    of_input _ _ _ _ _ (search rules) (c.read_input-read.ensures.front c.if-read.false) said.0 said.1 (subst (Appends _ _) said.2 (c.write_output.ensures.written zero))
