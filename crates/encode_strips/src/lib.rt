@@ -8,9 +8,23 @@ ghost use Rattle.code.specs.Family.{single, code_refusal};
 ghost use Rattle.code.specs.Laws.{Plain};
 ghost use Rattle.group_plans.specs.Plan.{ByteCode};
 ghost use Rattle.strip_columns.specs.Strips.{encoded_strips};
-ghost use Rattle.encode_strips.specs.Strips.{encode_strips_refusal, EncodeStripsSays};
+ghost use Rattle.encode_strips.specs.Strips.{strips_are, encode_strips_refusal, EncodeStripsSays};
 
 use code::{Code, Shape};
+
+// Whether so many symbols are n strips of l, with l from 1 to 4,096.
+pub fn strips_are(l: usize, n: usize, length: usize) -> bool
+    requires { n * l ≤ length }
+    ensures { result ≡ strips_are l n length }
+{
+    if l < 1 {
+        return false;
+    }
+    if l > 4096 {
+        return false;
+    }
+    length == n * l
+}
 
 // Questions 5 and 6 after the refusal of those before; length is that of the codewords' buffer.
 fn strips_refusal(refusal: u32, shape: Shape, messages: &[u8], length: usize) -> u32
@@ -22,7 +36,7 @@ fn strips_refusal(refusal: u32, shape: Shape, messages: &[u8], length: usize) ->
     }
     let n = shape.n as usize;
     let l = length / n;
-    let a = questions::ask(refusal, strip_columns::strips_are(l, n, length), 5);
+    let a = questions::ask(refusal, strips_are(l, n, length), 5);
     let b = questions::ask(a, messages.len() == shape.k as usize * l, 5);
     if b != 0 {
         return b;

@@ -9,8 +9,7 @@ use Rattle.algebra.specs.Sequence.{all_below}
 use Rattle.field.specs.Field.{q}
 use Rattle.code.specs.Question.{ask, or_ask}
 use Rattle.code.proofs.Questions.{or_ask_stop}
-use Rattle.strip_columns.specs.Strips.{strips_are}
-use Rattle.encode_strips.specs.Strips.{encode_strips_refusal}
+use Rattle.encode_strips.specs.Strips.{strips_are, encode_strips_refusal}
 use Rattle.encode_strips.proofs.Refusal.{asked_in_turn}
 use Rattle.encode_strips.proofs.strips_refusal.Goals as goal
 use Rattle.encode_strips.proofs.strips_refusal.Goals.{After-ask-b}

@@ -1,0 +1,4 @@
+use Rattle.latsefidy.proofs.latsefidy_decode_near.Goals as goal
+
+pub returns : goal.returns
+returns c = rw c.packed.ensures c.decode_near.ensures

@@ -1,0 +1,4 @@
+use Rattle.latsefidy.proofs.latsefidy_local_pass.Goals as goal
+
+pub returns : goal.returns
+returns c = rw c.packed.ensures c.local_pass.ensures

@@ -1,0 +1,4 @@
+use Rattle.latsefidy.proofs.latsefidy_preview_sheet.Goals as goal
+
+pub returns : goal.returns
+returns c = rw c.packed.ensures c.preview_front.ensures

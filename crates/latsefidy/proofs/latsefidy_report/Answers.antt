@@ -1,0 +1,4 @@
+use Rattle.latsefidy.proofs.latsefidy_report.Goals as goal
+
+pub returns : goal.returns
+returns c = rw c.packed.ensures c.report_front.ensures

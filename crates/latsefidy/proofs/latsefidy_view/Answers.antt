@@ -1,0 +1,4 @@
+use Rattle.latsefidy.proofs.latsefidy_view.Goals as goal
+
+pub returns : goal.returns
+returns c = rw c.packed.ensures c.view_first.ensures
