@@ -4,28 +4,22 @@
 --   column-kept-below   a kept column has symbols below q
 --   same_fit            just the same messages fit a column and its kept column
 --   column_verdict      a verdict on the kept column is one on the column
-use mathlib.Core.Path.{◌≡◌, refl, sym, ap, ◌∙◌}
+use mathlib.Core.Path.{◌≡◌, sym, ap, ◌∙◌}
 use mathlib.Core.Logic.{◌≢◌}
-use mathlib.Core.Bool.{Bool, true, false, cond, ◌||◌}
+use mathlib.Core.Bool.{true, cond}
 use mathlib.Core.List.{List}
-use Prim.Native.Nat.{ℕ, ◌+◌, ◌*◌, ◌≤◌, ◌<◌}
-use native.Mathlib.Omega.{arith}
+use Prim.Native.Nat.{ℕ, ◌+◌, ◌*◌, ◌<◌}
 use borrow.Author.Tests.{ne_eqb}
-use lib.Dec.{T, eqb, ltb, lt→ltb}
-use lib.ListN.{length, take, drop}
-use Rattle.algebra.specs.Sequence.{at, every, column, tabulate, all_below}
-use Rattle.algebra.proofs.Booleans.{so, yes_true, or_left, or_right}
-use Rattle.algebra.proofs.Every.{every_at, every_intro}
+use lib.ListN.{length}
+use Rattle.algebra.specs.Sequence.{at, column}
 use Rattle.algebra.proofs.Tabulate.{at_tabulate, length_tabulate}
-use Rattle.field.specs.Field.{q}
 use Rattle.code.specs.declared.Shape.{Shape}
 use Rattle.code.specs.Decoding.{lost, fits}
-use Rattle.code.specs.Erasure.{kept_below}
 use Rattle.code.specs.Verdict.{Verdict}
-use Rattle.code.proofs.Fits.{Fit, fits_to, fits_of}
+use Rattle.code.proofs.Fits.{fits_to, fits_of}
 use Rattle.code.proofs.Verdicts.{verdict_same}
-use Rattle.columns.proofs.Columns.{length_column, at_column}
-use Rattle.strip_words.specs.Strips.{strip, strip_below, kept_strips_below, kept_symbol, kept_column}
+use Rattle.columns.proofs.Columns.{at_column}
+use Rattle.strip_words.specs.Strips.{kept_symbol, kept_column}
 
 pub length_kept : (n l c : ℕ) (ws ms : List ℕ) → length (kept_column n l c ws ms) ≡ n
 unfolding kept_column

@@ -3,7 +3,7 @@
 --   first_three             what holds where those on words, marks and other buffers pass
 --   Handed l s ws ms b      == what they leave: strips of one length, marks, room in work, and kept symbols below q
 --   handed                  strips that are not refused are so
-use mathlib.Core.Path.{◌≡◌, refl, sym, ap, ◌∙◌}
+use mathlib.Core.Path.{◌≡◌, sym, ap, ◌∙◌}
 use mathlib.Core.Bool.{Bool, true, ◌&&◌}
 use mathlib.Core.List.{List}
 use Prim.Native.Nat.{ℕ, ◌+◌, ◌*◌, ◌/◌, ◌≤◌}
