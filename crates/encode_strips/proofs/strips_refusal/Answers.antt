@@ -37,10 +37,10 @@ overflow_mul-shape c =
     omega (arith, mul-le-mul_right (a.length / a.shape.n) k, mul-div-le a.length a.shape.n)
 
 -- what the two questions numbered 5 leave
-asked-so : (c : After-ask-b) → let a = c.args in
+asked_so : (c : After-ask-b) → let a = c.args in
     c.ask-b.result ≡ or_ask (or_ask a.refusal (ask (strips_are (a.length / a.shape.n) a.shape.n a.length) 5 0))
     (ask (eqb (length a.messages.now) (a.shape.k * (a.length / a.shape.n))) 5 0)
-asked-so c =
+asked_so c =
     let a = c.args in
     c.ask-b.ensures
     ∙ ap (λ x. or_ask x (ask (eqb (length a.messages.now) (a.shape.k * (a.length / a.shape.n))) 5 0))
@@ -51,11 +51,11 @@ returns-then-b-ne0 c =
     let a = c.args in
     let b = c.ask-b in
     or_ask_stop b.result (ask (all_below (q a.shape.field) a.messages.now) 6 0) c.if-b-ne0.true
-    ∙ asked_in_turn a.refusal a.shape a.messages.now a.length b.result (asked-so (goal.at.returns-then-b-ne0 c).After-ask-b)
+    ∙ asked_in_turn a.refusal a.shape a.messages.now a.length b.result (asked_so (goal.at.returns-then-b-ne0 c).After-ask-b)
 
 pub returns : goal.returns
 returns c =
     let a = c.args in
     c.ask.ensures
     ∙ ap (λ t. or_ask c.ask-b.result (ask t 6 0)) (c.strips_below.ensures ∙ ap (λ m. all_below m a.messages.now) c.order.ensures.0)
-    ∙ asked_in_turn a.refusal a.shape a.messages.now a.length c.ask-b.result (asked-so (goal.at.returns c).After-ask-b)
+    ∙ asked_in_turn a.refusal a.shape a.messages.now a.length c.ask-b.result (asked_so (goal.at.returns c).After-ask-b)

@@ -80,85 +80,85 @@ returns-then-losses_from-ne1 c =
     left h j ws ms m
 
 -- just one is
-one-lost : (c : Else-losses_from-ne1)
-    → (counted-here : let a = c.args in c.losses_from.result ≡ count (λ i. lost a.marks.now (i * step a.shape)) (members a.shape a.group))
+one_lost : (c : Else-losses_from-ne1)
+    → (counted_here : let a = c.args in c.losses_from.result ≡ count (λ i. lost a.marks.now (i * step a.shape)) (members a.shape a.group))
     → let a = c.args in
     count (λ i. lost a.marks.now (i * c.step_of-step.result)) c.members_of-members.result ≡ 1
-one-lost c counted-here =
+one_lost c counted_here =
     let a = c.args in
     let t = c.step_of-step in
     let z = c.members_of-members in
-    ap₂ (λ t z. count (λ i. lost a.marks.now (i * t)) z) t.ensures z.ensures.0 ∙ sym (counted-here) ∙ c.if-losses_from-ne1.false
+    ap₂ (λ t z. count (λ i. lost a.marks.now (i * t)) z) t.ensures z.ensures.0 ∙ sym (counted_here) ∙ c.if-losses_from-ne1.false
 
 pub lost_member-i-requires : goal.lost_member-i-requires
 lost_member-i-requires c =
-    (λ i l. omega (arith, inside (goal.at.lost_member-i-requires c).After-step_of-step i l, c.requires.5), one-lost (goal.at.lost_member-i-requires c).Else-losses_from-ne1 (counted (goal.at.lost_member-i-requires c).After-losses_from))
+    (λ i l. omega (arith, inside (goal.at.lost_member-i-requires c).After-step_of-step i l, c.requires.5), one_lost (goal.at.lost_member-i-requires c).Else-losses_from-ne1 (counted (goal.at.lost_member-i-requires c).After-losses_from))
 
 -- the lost member is one of the group's, and stands in the span
-member-within : (c : After-lost_member-i)
-    → (inside-here : let a = c.args in (i : ℕ) → i < c.members_of-members.result → i * c.step_of-step.result < span a.shape a.group)
+member_within : (c : After-lost_member-i)
+    → (inside_here : let a = c.args in (i : ℕ) → i < c.members_of-members.result → i * c.step_of-step.result < span a.shape a.group)
     → let a = c.args in
     (c.lost_member-i.result < members a.shape a.group) × (members a.shape a.group ≤ 17)
     × (c.lost_member-i.result * c.step_of-step.result < span a.shape a.group) × (span a.shape a.group ≤ 255)
-member-within c inside-here =
+member_within c inside_here =
     let i = c.lost_member-i in
     let z = c.members_of-members in (
       omega (arith, i.ensures.0, z.ensures.0),
       omega (arith, z.ensures, c.requires.2.plain.family.placed.size_most),
-      inside-here i.result i.ensures.0,
+      inside_here i.result i.ensures.0,
       span_byte c.args.shape c.requires.2.plain.family.placed c.args.group c.requires.3,
     )
 
 pub overflow_cast-member : goal.overflow_cast-member
-overflow_cast-member c = omega (arith, member-within (goal.at.overflow_cast-member c).After-lost_member-i (inside (goal.at.overflow_cast-member c).After-step_of-step))
+overflow_cast-member c = omega (arith, member_within (goal.at.overflow_cast-member c).After-lost_member-i (inside (goal.at.overflow_cast-member c).After-step_of-step))
 
 pub slot_at-slot-requires : goal.slot_at-slot-requires
 slot_at-slot-requires c =
-    (c.requires.2.plain.family.placed, c.requires.3, omega (arith, (member-within (goal.at.slot_at-slot-requires c).After-lost_member-i (inside (goal.at.slot_at-slot-requires c).After-step_of-step)).0, members_most c.args.shape c.requires.2.plain.family.placed c.args.group))
+    (c.requires.2.plain.family.placed, c.requires.3, omega (arith, (member_within (goal.at.slot_at-slot-requires c).After-lost_member-i (inside (goal.at.slot_at-slot-requires c).After-step_of-step)).0, members_most c.args.shape c.requires.2.plain.family.placed c.args.group))
 
 -- the slot of the lost member
 slot_inside : (c : After-slot_at-slot)
-    → (member-within-here : let a = c.args in (c.lost_member-i.result < members a.shape a.group) × (members a.shape a.group ≤ 17) × (c.lost_member-i.result * c.step_of-step.result < span a.shape a.group) × (span a.shape a.group ≤ 255))
+    → (member_within_here : let a = c.args in (c.lost_member-i.result < members a.shape a.group) × (members a.shape a.group ≤ 17) × (c.lost_member-i.result * c.step_of-step.result < span a.shape a.group) × (span a.shape a.group ≤ 255))
     → c.slot_at-slot.result < c.args.shape.n
-slot_inside c member-within-here =
-    omega (arith, c.slot_at-slot.ensures, member_slot c.args.shape c.requires.2.plain.family.placed c.args.group c.lost_member-i.result (member-within-here).0)
+slot_inside c member_within_here =
+    omega (arith, c.slot_at-slot.ensures, member_slot c.args.shape c.requires.2.plain.family.placed c.args.group c.lost_member-i.result (member_within_here).0)
 
 pub weights_of-weights-requires : goal.weights_of-weights-requires
-weights_of-weights-requires c = (mending c.args.shape c.requires.2, slot_inside (goal.at.weights_of-weights-requires c).After-slot_at-slot (member-within (goal.at.weights_of-weights-requires c).After-lost_member-i (inside (goal.at.weights_of-weights-requires c).After-step_of-step)))
+weights_of-weights-requires c = (mending c.args.shape c.requires.2, slot_inside (goal.at.weights_of-weights-requires c).After-slot_at-slot (member_within (goal.at.weights_of-weights-requires c).After-lost_member-i (inside (goal.at.weights_of-weights-requires c).After-step_of-step)))
 
 pub overflow_sub-number : goal.overflow_sub-number
 overflow_sub-number c = omega (arith, c.members_of-members.ensures.1)
 
 pub mates_of-mates-requires : goal.mates_of-mates-requires
 mates_of-mates-requires c =
-    (mending c.args.shape c.requires.2, c.requires.3, (member-within (goal.at.mates_of-mates-requires c).After-lost_member-i (inside (goal.at.mates_of-mates-requires c).After-step_of-step)).0, c.requires.4)
+    (mending c.args.shape c.requires.2, c.requires.3, (member_within (goal.at.mates_of-mates-requires c).After-lost_member-i (inside (goal.at.mates_of-mates-requires c).After-step_of-step)).0, c.requires.4)
 
 -- it is the only one that is lost
 only : (c : After-lost_member-i)
-    → (counted-here : let a = c.args in c.losses_from.result ≡ count (λ i. lost a.marks.now (i * step a.shape)) (members a.shape a.group))
+    → (counted_here : let a = c.args in c.losses_from.result ≡ count (λ i. lost a.marks.now (i * step a.shape)) (members a.shape a.group))
     → let a = c.args in
     (lone a.shape a.group a.marks.now ≡ true) × (lost a.marks.now (c.lost_member-i.result * step a.shape) ≡ true)
 unfolding lone lost
-only c counted-here =
+only c counted_here =
     let a = c.args in
     let h = a.shape in
     let ms = a.marks.now in
     let i = c.lost_member-i.result in
     let place : i * c.step_of-step.result ≡ i * step h = ap (λ n. i * n) c.step_of-step.ensures in (
-      eq-eqb (count (λ i. lost ms (i * step h)) (members h a.group)) 1 (sym (counted-here) ∙ c.if-losses_from-ne1.false),
+      eq-eqb (count (λ i. lost ms (i * step h)) (members h a.group)) 1 (sym (counted_here) ∙ c.if-losses_from-ne1.false),
       eq-eqb (at ms (i * step h)) 1 (ap (at ms) (sym place) ∙ c.lost_member-i.ensures.1),
     )
 
 -- as many symbols as the slot has mates
-mates-many : (c : After-mates_of-mates)
-    → (member-within-here : let a = c.args in (c.lost_member-i.result < members a.shape a.group) × (members a.shape a.group ≤ 17) × (c.lost_member-i.result * c.step_of-step.result < span a.shape a.group) × (span a.shape a.group ≤ 255))
+mates_many : (c : After-mates_of-mates)
+    → (member_within_here : let a = c.args in (c.lost_member-i.result < members a.shape a.group) × (members a.shape a.group ≤ 17) × (c.lost_member-i.result * c.step_of-step.result < span a.shape a.group) × (span a.shape a.group ≤ 255))
     → let h = c.args.shape in
     (c.members_of-members.result - 1 ≡ length (mates h c.slot_at-slot.result)) × (length (mates h c.slot_at-slot.result) ≤ length c.mates_of-mates.result) × (length c.mates_of-mates.result ≡ 16)
-mates-many c member-within-here =
+mates_many c member_within_here =
     let a = c.args in
     let h = a.shape in
     let i = c.lost_member-i.result in
-    let m = member-within-here in
+    let m = member_within_here in
     let few = mates_few h c.requires.2.plain.family.placed a.group i c.requires.3 m.0 in
     let p = ap (λ p. length (mates h p)) c.slot_at-slot.ensures in
     let l = ap (λ l. length l) c.mates_of-mates.ensures ∙ length_sixteen (part_mates h a.group i a.part.now) in
@@ -166,12 +166,12 @@ mates-many c member-within-here =
 
 -- some codeword has the group's kept symbols just where one has its mates'
 told : (c : After-mates_of-mates)
-    → (member-within-here : let a = c.args in (c.lost_member-i.result < members a.shape a.group) × (members a.shape a.group ≤ 17) × (c.lost_member-i.result * c.step_of-step.result < span a.shape a.group) × (span a.shape a.group ≤ 255))
-    → (only-here : let a = c.args in (lone a.shape a.group a.marks.now ≡ true) × (lost a.marks.now (c.lost_member-i.result * step a.shape) ≡ true))
+    → (member_within_here : let a = c.args in (c.lost_member-i.result < members a.shape a.group) × (members a.shape a.group ≤ 17) × (c.lost_member-i.result * c.step_of-step.result < span a.shape a.group) × (span a.shape a.group ≤ 255))
+    → (only_here : let a = c.args in (lone a.shape a.group a.marks.now ≡ true) × (lost a.marks.now (c.lost_member-i.result * step a.shape) ≡ true))
     → let a = c.args in
     (x : Bool) → x ≡ held a.shape (mates a.shape c.slot_at-slot.result) c.mates_of-mates.result → part_mended a.shape a.group a.part.now a.marks.now ≡ x
 unfolding part_mended
-told c member-within-here only-here x e =
+told c member_within_here only_here x e =
     let a = c.args in
     let h = a.shape in
     let j = a.group in
@@ -179,39 +179,39 @@ told c member-within-here only-here x e =
     let ms = a.marks.now in
     let i = c.lost_member-i.result in
     let p = c.slot_at-slot in
-    let l = (member-within-here).0 in
-    ap (λ b. b && part_held h j ws ms) (only-here).0 ∙ held_lone h j i ws ms (only-here).0 l (only-here).1
+    let l = (member_within_here).0 in
+    ap (λ b. b && part_held h j ws ms) (only_here).0 ∙ held_lone h j i ws ms (only_here).0 l (only_here).1
     ∙ sym (mates_told h (mending h c.requires.2) j i c.requires.3 l p.result p.ensures c.mates_of-mates.result ws c.mates_of-mates.ensures) ∙ sym e
 
 pub slice_bounds-mates-end : goal.slice_bounds-mates-end
-slice_bounds-mates-end c = omega (arith, mates-many (goal.at.slice_bounds-mates-end c).After-mates_of-mates (member-within (goal.at.slice_bounds-mates-end c).After-lost_member-i (inside (goal.at.slice_bounds-mates-end c).After-step_of-step)))
+slice_bounds-mates-end c = omega (arith, mates_many (goal.at.slice_bounds-mates-end c).After-mates_of-mates (member_within (goal.at.slice_bounds-mates-end c).After-lost_member-i (inside (goal.at.slice_bounds-mates-end c).After-step_of-step)))
 
 pub slice_bounds-strips_below-end : goal.slice_bounds-strips_below-end
 slice_bounds-strips_below-end c =
-    sym (length-take-le (c.members_of-members.result - 1) c.mates_of-mates.result (omega (arith, mates-many (goal.at.slice_bounds-strips_below-end c).After-mates_of-mates (member-within (goal.at.slice_bounds-strips_below-end c).After-lost_member-i (inside (goal.at.slice_bounds-strips_below-end c).After-step_of-step)))))
+    sym (length-take-le (c.members_of-members.result - 1) c.mates_of-mates.result (omega (arith, mates_many (goal.at.slice_bounds-strips_below-end c).After-mates_of-mates (member_within (goal.at.slice_bounds-strips_below-end c).After-lost_member-i (inside (goal.at.slice_bounds-strips_below-end c).After-step_of-step)))))
 
 pub returns-then-not-strips_below : goal.returns-then-not-strips_below
 returns-then-not-strips_below c =
     let a = c.args in
-    let m = mates-many (goal.at.returns-then-not-strips_below c).After-mates_of-mates (member-within (goal.at.returns-then-not-strips_below c).After-lost_member-i (inside (goal.at.returns-then-not-strips_below c).After-step_of-step)) in
+    let m = mates_many (goal.at.returns-then-not-strips_below c).After-mates_of-mates (member_within (goal.at.returns-then-not-strips_below c).After-lost_member-i (inside (goal.at.returns-then-not-strips_below c).After-step_of-step)) in
     left a.shape a.group a.part.now a.marks.now
-    (told (goal.at.returns-then-not-strips_below c).After-mates_of-mates (member-within (goal.at.returns-then-not-strips_below c).After-lost_member-i (inside (goal.at.returns-then-not-strips_below c).After-step_of-step)) (only (goal.at.returns-then-not-strips_below c).After-lost_member-i (counted (goal.at.returns-then-not-strips_below c).After-losses_from)) false
+    (told (goal.at.returns-then-not-strips_below c).After-mates_of-mates (member_within (goal.at.returns-then-not-strips_below c).After-lost_member-i (inside (goal.at.returns-then-not-strips_below c).After-step_of-step)) (only (goal.at.returns-then-not-strips_below c).After-lost_member-i (counted (goal.at.returns-then-not-strips_below c).After-losses_from)) false
     (none_held a.shape c.slot_at-slot.result c.mates_of-mates.result (c.members_of-members.result - 1) c.order-q.result m.0 m.1 c.order-q.ensures.0
     (sym c.strips_below.ensures ∙ c.if-not-strips_below.true)))
 
 pub overflow_cast-number : goal.overflow_cast-number
-overflow_cast-number c = omega (arith, mates-many (goal.at.overflow_cast-number c).After-mates_of-mates (member-within (goal.at.overflow_cast-number c).After-lost_member-i (inside (goal.at.overflow_cast-number c).After-step_of-step)))
+overflow_cast-number c = omega (arith, mates_many (goal.at.overflow_cast-number c).After-mates_of-mates (member_within (goal.at.overflow_cast-number c).After-lost_member-i (inside (goal.at.overflow_cast-number c).After-step_of-step)))
 
 -- so many checks as the slot has
-counted-checks : (c : After-checks_with-n)
-    → (mates-many-here : let h = c.args.shape in (c.members_of-members.result - 1 ≡ length (mates h c.slot_at-slot.result)) × (length (mates h c.slot_at-slot.result) ≤ length c.mates_of-mates.result) × (length c.mates_of-mates.result ≡ 16))
+counted_checks : (c : After-checks_with-n)
+    → (mates_many_here : let h = c.args.shape in (c.members_of-members.result - 1 ≡ length (mates h c.slot_at-slot.result)) × (length (mates h c.slot_at-slot.result) ≤ length c.mates_of-mates.result) × (length c.mates_of-mates.result ≡ 16))
     → c.checks_with-n.result ≡ checks c.args.shape c.slot_at-slot.result
-counted-checks c mates-many-here =
-    c.checks_with-n.ensures ∙ checks_by c.args.shape c.slot_at-slot.result (c.members_of-members.result - 1) (mates-many-here).0
+counted_checks c mates_many_here =
+    c.checks_with-n.ensures ∙ checks_by c.args.shape c.slot_at-slot.result (c.members_of-members.result - 1) (mates_many_here).0
 
 pub pass_checks-requires : goal.pass_checks-requires
 pass_checks-requires c =
-    (mending c.args.shape c.requires.2, slot_inside (goal.at.pass_checks-requires c).After-slot_at-slot (member-within (goal.at.pass_checks-requires c).After-lost_member-i (inside (goal.at.pass_checks-requires c).After-step_of-step)), counted-checks (goal.at.pass_checks-requires c).After-checks_with-n (mates-many (goal.at.pass_checks-requires c).After-mates_of-mates (member-within (goal.at.pass_checks-requires c).After-lost_member-i (inside (goal.at.pass_checks-requires c).After-step_of-step))), (mates-many (goal.at.pass_checks-requires c).After-mates_of-mates (member-within (goal.at.pass_checks-requires c).After-lost_member-i (inside (goal.at.pass_checks-requires c).After-step_of-step))).1)
+    (mending c.args.shape c.requires.2, slot_inside (goal.at.pass_checks-requires c).After-slot_at-slot (member_within (goal.at.pass_checks-requires c).After-lost_member-i (inside (goal.at.pass_checks-requires c).After-step_of-step)), counted_checks (goal.at.pass_checks-requires c).After-checks_with-n (mates_many (goal.at.pass_checks-requires c).After-mates_of-mates (member_within (goal.at.pass_checks-requires c).After-lost_member-i (inside (goal.at.pass_checks-requires c).After-step_of-step))), (mates_many (goal.at.pass_checks-requires c).After-mates_of-mates (member_within (goal.at.pass_checks-requires c).After-lost_member-i (inside (goal.at.pass_checks-requires c).After-step_of-step))).1)
 
 -- every mate's symbol is below q
 below : (c : Else-not-strips_below) → all_below c.order-q.result (take (c.members_of-members.result - 1) c.mates_of-mates.result) ≡ true
@@ -219,57 +219,57 @@ below c = sym c.strips_below.ensures ∙ c.if-not-strips_below.false
 
 -- what the checks answer
 checked : (c : Else-not-strips_below)
-    → (mates-many-here : let h = c.args.shape in (c.members_of-members.result - 1 ≡ length (mates h c.slot_at-slot.result)) × (length (mates h c.slot_at-slot.result) ≤ length c.mates_of-mates.result) × (length c.mates_of-mates.result ≡ 16))
-    → (slot_inside-here : c.slot_at-slot.result < c.args.shape.n)
+    → (mates_many_here : let h = c.args.shape in (c.members_of-members.result - 1 ≡ length (mates h c.slot_at-slot.result)) × (length (mates h c.slot_at-slot.result) ≤ length c.mates_of-mates.result) × (length c.mates_of-mates.result ≡ 16))
+    → (slot_inside_here : c.slot_at-slot.result < c.args.shape.n)
     → let h = c.args.shape in let p = c.slot_at-slot.result in
     (x : Bool) → x ≡ passes h p c.mates_of-mates.result → x ≡ held h (mates h p) c.mates_of-mates.result
-checked c mates-many-here slot_inside-here =
-    let m = mates-many-here in
+checked c mates_many_here slot_inside_here =
+    let m = mates_many_here in
     tells c.args.shape c.slot_at-slot.result c.mates_of-mates.result (c.members_of-members.result - 1) c.order-q.result m.0 m.1 c.order-q.ensures.0
-    c.requires.2 (slot_inside-here) (below c)
+    c.requires.2 (slot_inside_here) (below c)
 
 pub returns-then-not-pass_checks : goal.returns-then-not-pass_checks
 returns-then-not-pass_checks c =
     let a = c.args in
     left a.shape a.group a.part.now a.marks.now
-    (told (goal.at.returns-then-not-pass_checks c).After-mates_of-mates (member-within (goal.at.returns-then-not-pass_checks c).After-lost_member-i (inside (goal.at.returns-then-not-pass_checks c).After-step_of-step)) (only (goal.at.returns-then-not-pass_checks c).After-lost_member-i (counted (goal.at.returns-then-not-pass_checks c).After-losses_from)) c.pass_checks.result (checked (goal.at.returns-then-not-pass_checks c).Else-not-strips_below (mates-many (goal.at.returns-then-not-pass_checks c).After-mates_of-mates (member-within (goal.at.returns-then-not-pass_checks c).After-lost_member-i (inside (goal.at.returns-then-not-pass_checks c).After-step_of-step))) (slot_inside (goal.at.returns-then-not-pass_checks c).After-slot_at-slot (member-within (goal.at.returns-then-not-pass_checks c).After-lost_member-i (inside (goal.at.returns-then-not-pass_checks c).After-step_of-step))) c.pass_checks.result c.pass_checks.ensures) ∙ c.if-not-pass_checks.true)
+    (told (goal.at.returns-then-not-pass_checks c).After-mates_of-mates (member_within (goal.at.returns-then-not-pass_checks c).After-lost_member-i (inside (goal.at.returns-then-not-pass_checks c).After-step_of-step)) (only (goal.at.returns-then-not-pass_checks c).After-lost_member-i (counted (goal.at.returns-then-not-pass_checks c).After-losses_from)) c.pass_checks.result (checked (goal.at.returns-then-not-pass_checks c).Else-not-strips_below (mates_many (goal.at.returns-then-not-pass_checks c).After-mates_of-mates (member_within (goal.at.returns-then-not-pass_checks c).After-lost_member-i (inside (goal.at.returns-then-not-pass_checks c).After-step_of-step))) (slot_inside (goal.at.returns-then-not-pass_checks c).After-slot_at-slot (member_within (goal.at.returns-then-not-pass_checks c).After-lost_member-i (inside (goal.at.returns-then-not-pass_checks c).After-step_of-step))) c.pass_checks.result c.pass_checks.ensures) ∙ c.if-not-pass_checks.true)
 
 -- the group is mended
 mended : (c : Joined-n-ne0)
-    → (mates-many-here : let h = c.args.shape in (c.members_of-members.result - 1 ≡ length (mates h c.slot_at-slot.result)) × (length (mates h c.slot_at-slot.result) ≤ length c.mates_of-mates.result) × (length c.mates_of-mates.result ≡ 16))
-    → (told-here : let a = c.args in (x : Bool) → x ≡ held a.shape (mates a.shape c.slot_at-slot.result) c.mates_of-mates.result → part_mended a.shape a.group a.part.now a.marks.now ≡ x)
-    → (checked-here : let h = c.args.shape in let p = c.slot_at-slot.result in (x : Bool) → x ≡ passes h p c.mates_of-mates.result → x ≡ held h (mates h p) c.mates_of-mates.result)
-    → (slot_inside-here : c.slot_at-slot.result < c.args.shape.n)
-    → (below-here : all_below c.order-q.result (take (c.members_of-members.result - 1) c.mates_of-mates.result) ≡ true)
-    → (counted-checks-here : c.checks_with-n.result ≡ checks c.args.shape c.slot_at-slot.result)
+    → (mates_many_here : let h = c.args.shape in (c.members_of-members.result - 1 ≡ length (mates h c.slot_at-slot.result)) × (length (mates h c.slot_at-slot.result) ≤ length c.mates_of-mates.result) × (length c.mates_of-mates.result ≡ 16))
+    → (told_here : let a = c.args in (x : Bool) → x ≡ held a.shape (mates a.shape c.slot_at-slot.result) c.mates_of-mates.result → part_mended a.shape a.group a.part.now a.marks.now ≡ x)
+    → (checked_here : let h = c.args.shape in let p = c.slot_at-slot.result in (x : Bool) → x ≡ passes h p c.mates_of-mates.result → x ≡ held h (mates h p) c.mates_of-mates.result)
+    → (slot_inside_here : c.slot_at-slot.result < c.args.shape.n)
+    → (below_here : all_below c.order-q.result (take (c.members_of-members.result - 1) c.mates_of-mates.result) ≡ true)
+    → (counted_checks_here : c.checks_with-n.result ≡ checks c.args.shape c.slot_at-slot.result)
     → let a = c.args in part_mended a.shape a.group a.part.now a.marks.now ≡ true
-mended c mates-many-here told-here checked-here slot_inside-here below-here counted-checks-here =
-    let m = mates-many-here in
+mended c mates_many_here told_here checked_here slot_inside_here below_here counted_checks_here =
+    let m = mates_many_here in
     elim c.if-n-ne0.branch [
-      | then-n-ne0+else-not-pass_checks w ↦ told-here _ (checked-here _ w.pass_checks.ensures) ∙ w.if-not-pass_checks.false
-      | else-n-ne0 w ↦ told-here true
+      | then-n-ne0+else-not-pass_checks w ↦ told_here _ (checked_here _ w.pass_checks.ensures) ∙ w.if-not-pass_checks.false
+      | else-n-ne0 w ↦ told_here true
           (all_held c.args.shape c.slot_at-slot.result c.mates_of-mates.result (c.members_of-members.result - 1) c.order-q.result m.0 m.1 c.order-q.ensures.0
-          c.requires.2 (slot_inside-here) (below-here) (sym (counted-checks-here) ∙ w.if-n-ne0.false))
+          c.requires.2 (slot_inside_here) (below_here) (sym (counted_checks_here) ∙ w.if-n-ne0.false))
     ]
 
 pub overflow_mul-place : goal.overflow_mul-place
-overflow_mul-place c = omega (arith, member-within (goal.at.overflow_mul-place c).After-lost_member-i (inside (goal.at.overflow_mul-place c).After-step_of-step))
+overflow_mul-place c = omega (arith, member_within (goal.at.overflow_mul-place c).After-lost_member-i (inside (goal.at.overflow_mul-place c).After-step_of-step))
 
 pub dot-requires : goal.dot-requires
 dot-requires c =
     let z = c.members_of-members in
-    let few = (member-within (goal.at.dot-requires c).After-lost_member-i (inside (goal.at.dot-requires c).After-step_of-step)).1 in (
+    let few = (member_within (goal.at.dot-requires c).After-lost_member-i (inside (goal.at.dot-requires c).After-step_of-step)).1 in (
       c.requires.0,
       c.requires.1,
       omega (arith, z.ensures.0, few, ap (λ l. length l) c.weights_of-weights.ensures, length_sixteen (weights c.args.shape c.slot_at-slot.result)),
-      omega (arith, z.ensures.0, few, (mates-many (goal.at.dot-requires c).After-mates_of-mates (member-within (goal.at.dot-requires c).After-lost_member-i (inside (goal.at.dot-requires c).After-step_of-step))).2),
+      omega (arith, z.ensures.0, few, (mates_many (goal.at.dot-requires c).After-mates_of-mates (member_within (goal.at.dot-requires c).After-lost_member-i (inside (goal.at.dot-requires c).After-step_of-step))).2),
     )
 
 pub bounds-part-place : goal.bounds-part-place
-bounds-part-place c = omega (arith, member-within (goal.at.bounds-part-place c).After-lost_member-i (inside (goal.at.bounds-part-place c).After-step_of-step), c.requires.4)
+bounds-part-place c = omega (arith, member_within (goal.at.bounds-part-place c).After-lost_member-i (inside (goal.at.bounds-part-place c).After-step_of-step), c.requires.4)
 
 pub bounds-marks-place : goal.bounds-marks-place
-bounds-marks-place c = omega (arith, member-within (goal.at.bounds-marks-place c).After-lost_member-i (inside (goal.at.bounds-marks-place c).After-step_of-step), c.requires.5)
+bounds-marks-place c = omega (arith, member_within (goal.at.bounds-marks-place c).After-lost_member-i (inside (goal.at.bounds-marks-place c).After-step_of-step), c.requires.5)
 
 pub returns : goal.returns
 returns c =
@@ -285,10 +285,10 @@ returns c =
     let p = c.slot_at-slot in
     let W = c.weights_of-weights in
     let b : Bool = part_mended h j ws ms in
-    let y : b ≡ true = mended (goal.at.returns c).Joined-n-ne0 (mates-many (goal.at.returns c).After-mates_of-mates (member-within (goal.at.returns c).After-lost_member-i (inside (goal.at.returns c).After-step_of-step))) (told (goal.at.returns c).After-mates_of-mates (member-within (goal.at.returns c).After-lost_member-i (inside (goal.at.returns c).After-step_of-step)) (only (goal.at.returns c).After-lost_member-i (counted (goal.at.returns c).After-losses_from))) (checked (goal.at.returns c).Else-not-strips_below (mates-many (goal.at.returns c).After-mates_of-mates (member-within (goal.at.returns c).After-lost_member-i (inside (goal.at.returns c).After-step_of-step))) (slot_inside (goal.at.returns c).After-slot_at-slot (member-within (goal.at.returns c).After-lost_member-i (inside (goal.at.returns c).After-step_of-step)))) (slot_inside (goal.at.returns c).After-slot_at-slot (member-within (goal.at.returns c).After-lost_member-i (inside (goal.at.returns c).After-step_of-step))) (below (goal.at.returns c).Else-not-strips_below) (counted-checks (goal.at.returns c).After-checks_with-n (mates-many (goal.at.returns c).After-mates_of-mates (member-within (goal.at.returns c).After-lost_member-i (inside (goal.at.returns c).After-step_of-step)))) in
+    let y : b ≡ true = mended (goal.at.returns c).Joined-n-ne0 (mates_many (goal.at.returns c).After-mates_of-mates (member_within (goal.at.returns c).After-lost_member-i (inside (goal.at.returns c).After-step_of-step))) (told (goal.at.returns c).After-mates_of-mates (member_within (goal.at.returns c).After-lost_member-i (inside (goal.at.returns c).After-step_of-step)) (only (goal.at.returns c).After-lost_member-i (counted (goal.at.returns c).After-losses_from))) (checked (goal.at.returns c).Else-not-strips_below (mates_many (goal.at.returns c).After-mates_of-mates (member_within (goal.at.returns c).After-lost_member-i (inside (goal.at.returns c).After-step_of-step))) (slot_inside (goal.at.returns c).After-slot_at-slot (member_within (goal.at.returns c).After-lost_member-i (inside (goal.at.returns c).After-step_of-step)))) (slot_inside (goal.at.returns c).After-slot_at-slot (member_within (goal.at.returns c).After-lost_member-i (inside (goal.at.returns c).After-step_of-step))) (below (goal.at.returns c).Else-not-strips_below) (counted_checks (goal.at.returns c).After-checks_with-n (mates_many (goal.at.returns c).After-mates_of-mates (member_within (goal.at.returns c).After-lost_member-i (inside (goal.at.returns c).After-step_of-step)))) in
     let place : i * t.result ≡ i * step h = ap (λ n. i * n) t.ensures in
-    let there : i * step h < span h j = omega (arith, (member-within (goal.at.returns c).After-lost_member-i (inside (goal.at.returns c).After-step_of-step)).2) in
-    let l = (member-within (goal.at.returns c).After-lost_member-i (inside (goal.at.returns c).After-step_of-step)).0 in
+    let there : i * step h < span h j = omega (arith, (member_within (goal.at.returns c).After-lost_member-i (inside (goal.at.returns c).After-step_of-step)).2) in
+    let l = (member_within (goal.at.returns c).After-lost_member-i (inside (goal.at.returns c).After-step_of-step)).0 in
     let v = c.dot.result in
     let g : ℕ → ℕ = λ k. repaired h (slot_at h j k) (part_mates h j k ws) in
     let e : v ≡ g i = c.dot.ensures

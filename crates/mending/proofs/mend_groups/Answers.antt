@@ -42,13 +42,13 @@ span_of-requires c = (c.requires.2.plain.family.placed, inside (goal.at.span_of-
 
 -- the group's span, and that all is small
 within : (c : After-span_of)
-    → (inside-here : c.loop-j.j < groups c.args.shape)
+    → (inside_here : c.loop-j.j < groups c.args.shape)
     → (c.first_of-start.result + c.span_of.result ≤ c.args.shape.n) × (c.args.shape.n ≤ 255)
-within c inside-here =
+within c inside_here =
     let h = c.args.shape in
     let P = c.requires.2.plain.family.placed in
     let m = c.first_of-start in (
-      span_within h P c.loop-j.j m.result c.span_of.result (inside-here) (sym m.ensures) (sym c.span_of.ensures),
+      span_within h P c.loop-j.j m.result c.span_of.result (inside_here) (sym m.ensures) (sym c.span_of.ensures),
       n_most h P,
     )
 
@@ -89,18 +89,18 @@ mend_group-one-requires c =
 
 -- one group more
 more : (c : After-mend_group-one)
-    → (inside-here : c.loop-j.j < groups c.args.shape)
-    → (lent-here : span c.args.shape c.loop-j.j ≡ c.first_of-start.result + c.span_of.result - c.first_of-start.result)
+    → (inside_here : c.loop-j.j < groups c.args.shape)
+    → (lent_here : span c.args.shape c.loop-j.j ≡ c.first_of-start.result + c.span_of.result - c.first_of-start.result)
     → let a = c.args in let l = c.loop-j in
     let m = c.first_of-start.result in let k = m + c.span_of.result - m in
     Done a.shape a.word.now a.marks.now (l.j + 1) (splice m k l.word c.mend_group-one.new.part) (splice m k l.marks c.mend_group-one.new.marks)
     (l.number + c.mend_group-one.result)
-more c inside-here lent-here =
+more c inside_here lent_here =
     let a = c.args in
     let h = a.shape in
     let M = mending h c.requires.2 in
     let l = c.loop-j in
-    let b = inside-here in
+    let b = inside_here in
     let m = c.first_of-start.result in
     let k = m + c.span_of.result - m in
     let e = sym c.first_of-start.ensures in
@@ -112,9 +112,9 @@ more c inside-here lent-here =
     let w = c.mend_group-one.new.part in
     let n = c.mend_group-one.new.marks in
     record {
-      word = word_step h M l.j m k b e (lent-here) ws ms l.word l.marks c.requires.3 c.requires.4 D.word D.marks x w n G;
-      marks = marks_step h M l.j m k b e (lent-here) ws ms l.word l.marks c.requires.3 c.requires.4 D.word D.marks x w n G;
-      many = ap (λ y. y + x) D.many ∙ number_step h M l.j m k b e (lent-here) ws ms l.word l.marks c.requires.3 c.requires.4 D.word D.marks x w n G;
+      word = word_step h M l.j m k b e (lent_here) ws ms l.word l.marks c.requires.3 c.requires.4 D.word D.marks x w n G;
+      marks = marks_step h M l.j m k b e (lent_here) ws ms l.word l.marks c.requires.3 c.requires.4 D.word D.marks x w n G;
+      many = ap (λ y. y + x) D.many ∙ number_step h M l.j m k b e (lent_here) ws ms l.word l.marks c.requires.3 c.requires.4 D.word D.marks x w n G;
     }
 
 pub overflow_add-number : goal.overflow_add-number

@@ -30,9 +30,9 @@ module _ (n : ℕ) (s : Shape) (ws ms : List ℕ) (b : ℕ) (e : b ≡ or_ask (o
       (u.0, eqb→eq (length ws) s.n (asked w 4 0 u.1).0, eqb→eq (length ms) s.n (asked m 4 0 t.1).0)
 
 -- after both lengths
-lengths-asked : (c : After-ask-b) → let a = c.args in
+lengths_asked : (c : After-ask-b) → let a = c.args in
     c.ask-b.result ≡ or_ask (or_ask a.refusal (ask (eqb (length a.word.now) a.shape.n) 5 0)) (ask (eqb (length a.marks.now) a.shape.n) 5 0)
-lengths-asked c =
+lengths_asked c =
     let a = c.args in
     c.ask-b.ensures ∙ ap (λ x. or_ask x (ask (eqb (length a.marks.now) a.shape.n) 5 0)) c.ask-a.ensures
 
@@ -40,12 +40,12 @@ pub returns-then-b-ne0 : goal.returns-then-b-ne0
 returns-then-b-ne0 c =
     let a = c.args in
     or_ask_stop c.ask-b.result _ c.if-b-ne0.true
-    ∙ after_lengths a.refusal a.shape a.word.now a.marks.now c.ask-b.result (lengths-asked (goal.at.returns-then-b-ne0 c).After-ask-b)
+    ∙ after_lengths a.refusal a.shape a.word.now a.marks.now c.ask-b.result (lengths_asked (goal.at.returns-then-b-ne0 c).After-ask-b)
 
 pub pass_below-requires : goal.pass_below-requires
 pass_below-requires c =
     let a = c.args in
-    let t = passed a.refusal a.shape a.word.now a.marks.now c.ask-b.result (lengths-asked (goal.at.pass_below-requires c).After-ask-b) c.if-b-ne0.false in
+    let t = passed a.refusal a.shape a.word.now a.marks.now c.ask-b.result (lengths_asked (goal.at.pass_below-requires c).After-ask-b) c.if-b-ne0.false in
     (c.requires t.0, t.1, t.2)
 
 pub returns : goal.returns
@@ -56,4 +56,4 @@ returns c =
     c.ask.ensures
     ∙ ap₂ (λ x t. or_ask x (ask t 6 0)) (c.ask-c.ensures ∙ ap (λ t. or_ask c.ask-b.result (ask t 8 0)) c.all_below.ensures) c.pass_below.ensures
     ∙ ask_then c.ask-b.result m 7 (ask r 6 0)
-    ∙ after_lengths a.refusal a.shape a.word.now a.marks.now c.ask-b.result (lengths-asked (goal.at.returns c).After-ask-b)
+    ∙ after_lengths a.refusal a.shape a.word.now a.marks.now c.ask-b.result (lengths_asked (goal.at.returns c).After-ask-b)

@@ -28,12 +28,12 @@ few : (c : Else-asked-ne0) → c.args.shape.n ≤ 255
 few c = n_most c.args.shape (c.requires (given c).numbers).plain.family.placed
 
 copied : (c : After-copy)
-    → (given-here : let a = c.args in Asked a.refusal a.shape a.slot a.marks.now (length a.work.now))
-    → (few-here : c.args.shape.n ≤ 255)
+    → (given_here : let a = c.args in Asked a.refusal a.shape a.slot a.marks.now (length a.work.now))
+    → (few_here : c.args.shape.n ≤ 255)
     → let a = c.args in take a.shape.n c.copy.new.target ≡ a.marks.now
-copied c given-here few-here =
+copied c given_here few_here =
     let a = c.args in
-    copied_front a.shape.n a.marks.now (replicate 255 0) c.copy.new.target (given-here).marks_size (omega (arith, few-here, length-replicate {A = ℕ} 255 0)) c.copy.ensures
+    copied_front a.shape.n a.marks.now (replicate 255 0) c.copy.new.target (given_here).marks_size (omega (arith, few_here, length-replicate {A = ℕ} 255 0)) c.copy.ensures
 
 pub copy-requires : goal.copy-requires
 copy-requires c = (omega (arith, (given (goal.at.copy-requires c).Else-asked-ne0).marks_size), omega (arith, few (goal.at.copy-requires c).Else-asked-ne0))

@@ -33,9 +33,9 @@ good c =
 
 -- the code's groups stand one loss
 mends : (c : After-single-shape)
-    → (good-here : let a = c.args in (code_refusal a.code ≡ 0) × (length c.send-sent.new.word ≡ a.code.n))
+    → (good_here : let a = c.args in (code_refusal a.code ≡ 0) × (length c.send-sent.new.word ≡ a.code.n))
     → Mending c.single-shape.result
-mends c good-here = subst Mending (sym c.single-shape.ensures) (mending_of _ (good-here).0)
+mends c good_here = subst Mending (sym c.single-shape.ensures) (mending_of _ (good_here).0)
 
 pub returns-then-refusal-ne0 : goal.returns-then-refusal-ne0
 returns-then-refusal-ne0 c =
@@ -53,16 +53,16 @@ pub mates_number-number-requires : goal.mates_number-number-requires
 mates_number-number-requires c = mends (goal.at.mates_number-number-requires c).After-single-shape (good (goal.at.mates_number-number-requires c).Else-refusal-ne0)
 
 -- there are sixteen
-sixteen-all : (c : After-mates_in-mates) → length c.mates_in-mates.result ≡ 16
-sixteen-all c = ap length c.mates_in-mates.ensures ∙ length_sixteen _
+sixteen_all : (c : After-mates_in-mates) → length c.mates_in-mates.result ≡ 16
+sixteen_all c = ap length c.mates_in-mates.ensures ∙ length_sixteen _
 
 pub slice_bounds-mates-end : goal.slice_bounds-mates-end
-slice_bounds-mates-end c = omega (arith, sixteen-all (goal.at.slice_bounds-mates-end c).After-mates_in-mates, c.mates_number-number.ensures.1)
+slice_bounds-mates-end c = omega (arith, sixteen_all (goal.at.slice_bounds-mates-end c).After-mates_in-mates, c.mates_number-number.ensures.1)
 
 pub slice_bounds-repair-end : goal.slice_bounds-repair-end
 slice_bounds-repair-end c =
     let n = c.mates_number-number in
-    sym (length-take-le n.result c.mates_in-mates.result (omega (arith, sixteen-all (goal.at.slice_bounds-repair-end c).After-mates_in-mates, n.ensures.1)))
+    sym (length-take-le n.result c.mates_in-mates.result (omega (arith, sixteen_all (goal.at.slice_bounds-repair-end c).After-mates_in-mates, n.ensures.1)))
 
 pub returns : goal.returns
 returns c =

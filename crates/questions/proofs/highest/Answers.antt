@@ -18,11 +18,11 @@ module _ (i : ℕ) (xs : List ℕ) (x : ℕ) (H : Highest i xs x) where
       go (yes e) = rw e h
       go (no n) = omega (arith, H.most k (omega arith))
 
-  highest-new : x < at xs i → Highest (i + 1) xs (at xs i)
-  highest-new l = record { place = i; within = omega arith; there = refl; most = below_next (at xs i) (omega arith) (omega arith) }
+  highest_new : x < at xs i → Highest (i + 1) xs (at xs i)
+  highest_new l = record { place = i; within = omega arith; there = refl; most = below_next (at xs i) (omega arith) (omega arith) }
 
-  highest-old : at xs i ≤ x → Highest (i + 1) xs x
-  highest-old l = record { place = H.place; within = omega (arith, H.within); there = H.there; most = below_next x (omega arith) l }
+  highest_old : at xs i ≤ x → Highest (i + 1) xs x
+  highest_old l = record { place = H.place; within = omega (arith, H.within); there = H.there; most = below_next x (omega arith) l }
 
 pub loop-i-init : goal.loop-i-init
 loop-i-init c =
@@ -35,8 +35,8 @@ loop-i-preserved c =
     let l = c.loop-i in (
       omega arith,
       elim c.if-entries-i.branch [
-        | then-entries-i w ↦ rw w.high-is (highest-new l.i xs l.high l.invariant.1 w.if-entries-i.true)
-        | else-entries-i w ↦ rw w.high-is (highest-old l.i xs l.high l.invariant.1 (omega (arith, w.if-entries-i.false)))
+        | then-entries-i w ↦ rw w.high-is (highest_new l.i xs l.high l.invariant.1 w.if-entries-i.true)
+        | else-entries-i w ↦ rw w.high-is (highest_old l.i xs l.high l.invariant.1 (omega (arith, w.if-entries-i.false)))
       ],
     )
 

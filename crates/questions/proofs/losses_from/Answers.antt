@@ -5,12 +5,12 @@ use borrow.Author.Tests.{eq-eqb, ne_eqb}
 use Rattle.algebra.specs.Sequence.{at, count}
 use Rattle.algebra.proofs.Counting.{count_zero, count_yes, count_no, count_most}
 use Rattle.code.specs.Decoding.{lost}
-use Rattle.questions.proofs.losses_from.Invariants.{lost-at}
+use Rattle.questions.proofs.losses_from.Invariants.{lost_at}
 use Rattle.questions.proofs.losses_from.Goals as goal
 use Rattle.questions.proofs.losses_from.Goals.{then-marks-first-eq1, else-marks-first-eq1}
 
 pub loop-i-init : goal.loop-i-init
-loop-i-init c = let a = c.args in (omega arith, sym (count_zero (lost-at a.marks.now a.first a.step)))
+loop-i-init c = let a = c.args in (omega arith, sym (count_zero (lost_at a.marks.now a.first a.step)))
 
 pub overflow_mul-i : goal.overflow_mul-i
 overflow_mul-i c = omega (arith, c.requires c.loop-i.i c.loop-i-test.true)
@@ -25,7 +25,7 @@ pub overflow_add-lost : goal.overflow_add-lost
 overflow_add-lost c =
     let l = c.loop-i in
     let a = c.args in
-    omega (arith, l.invariant.1, count_most (lost-at a.marks.now a.first a.step) l.i, c.loop-i-test.true)
+    omega (arith, l.invariant.1, count_most (lost_at a.marks.now a.first a.step) l.i, c.loop-i-test.true)
 
 pub overflow_add-i : goal.overflow_add-i
 overflow_add-i c = omega (arith, c.loop-i-test.true)
@@ -35,7 +35,7 @@ unfolding lost
 loop-i-preserved c =
     let a = c.args in
     let l = c.loop-i in
-    let f = lost-at a.marks.now a.first a.step in
+    let f = lost_at a.marks.now a.first a.step in
     let x = at a.marks.now (a.first + l.i * a.step) in (
       omega (arith, c.loop-i-test.true),
       elim c.if-marks-first-eq1.branch [
@@ -49,4 +49,4 @@ returns c =
     let a = c.args in
     let l = c.loop-i in
     let e : l.i ≡ a.number = omega arith in
-    l.invariant.1 ∙ ap (count (lost-at a.marks.now a.first a.step)) e
+    l.invariant.1 ∙ ap (count (lost_at a.marks.now a.first a.step)) e

@@ -7,11 +7,11 @@ use Rattle.code.specs.Decoding.{lost}
 use Rattle.questions.proofs.losses_from.Given as goal
 
 -- the mark of member i
-abbrev pub lost-at : (marks : List ℕ) → (first step i : ℕ) → Bool
-lost-at ms f t i = lost ms (f + i * t)
+abbrev pub lost_at : (marks : List ℕ) → (first step i : ℕ) → Bool
+lost_at ms f t i = lost ms (f + i * t)
 
 abbrev pub invariant-loop-i : goal.invariant-loop-i
-invariant-loop-i l = (l.i ≤ l.number) × (l.lost ≡ count (lost-at l.marks l.first l.step) l.i)
+invariant-loop-i l = (l.i ≤ l.number) × (l.lost ≡ count (lost_at l.marks l.first l.step) l.i)
 
 abbrev pub decreases-loop-i : goal.decreases-loop-i
 decreases-loop-i l = l.number - l.i
