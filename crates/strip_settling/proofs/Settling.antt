@@ -2,17 +2,17 @@
 --   put_own, put_other            a column that was put, and the others
 --   Settled s l ws ms c y zs      == the columns below c: y is 0 where each has its message in zs, 10 where some has more than one; none has none
 --   settled_start, settled_more, settled_all, settled_none
-use mathlib.Core.Path.{◌≡◌, refl, sym, ap, subst, ◌∙◌}
+use mathlib.Core.Path.{◌≡◌, refl, sym, subst}
 use mathlib.Core.Logic.{◌≢◌}
-use mathlib.Core.Bool.{Bool, true, false, cond}
+use mathlib.Core.Bool.{true, cond}
 use mathlib.Core.List.{List}
-use Prim.Native.Nat.{ℕ, ◌+◌, ◌*◌, ◌≤◌, ◌<◌}
+use Prim.Native.Nat.{ℕ, ◌+◌, ◌*◌, ◌<◌}
 use native.Mathlib.Decide.{ℕ_discrete}
 use native.Mathlib.Omega.{arith}
 use borrow.Author.Tests.{eq-eqb, ne_eqb}
 use lib.Dec.{eqb}
 use lib.ListN.{length}
-use Rattle.algebra.specs.Sequence.{at, column, tabulate}
+use Rattle.algebra.specs.Sequence.{at, column}
 use Rattle.algebra.proofs.Tabulate.{tabulate_is, tabulate_same}
 use Rattle.code.specs.declared.Shape.{Shape}
 use Rattle.code.specs.Decoding.{fits}

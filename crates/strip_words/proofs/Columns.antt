@@ -1,7 +1,5 @@
 -- Columns of the kept strips. Assumes nothing.
---   strip-symbol        a symbol of a kept strip is below q
 --   kept_column_at      entry p of a kept column
---   column-kept-below   a kept column has symbols below q
 --   same_fit            just the same messages fit a column and its kept column
 --   column_verdict      a verdict on the kept column is one on the column
 use mathlib.Core.Path.{◌≡◌, sym, ap, ◌∙◌}
