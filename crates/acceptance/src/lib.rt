@@ -60,7 +60,8 @@ fn wiring_refusal(code: Code, last: u32) -> u32
     ensures { result ≡ ask (wiring_fits (single code)) 17 0 }
 {
     let wiring = code.wiring;
-    if wiring > 1 {
+    let unknown = wiring > 1;
+    if unknown {
         return 17;
     }
     if wiring == 0 {
@@ -107,7 +108,8 @@ fn length_refusal(code: Code, most: u32) -> u32
     }
     let last = n % size;
     let groups = (n + r) / size;
-    if last == 1 {
+    let alone = last == 1;
+    if alone {
         return 3;
     }
     if groups * size > most {

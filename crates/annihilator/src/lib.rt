@@ -39,7 +39,8 @@ fn take_place(
     requires { (n ≤ 255) × (i < n) × (length marks.now ≡ n) × ((p : ℕ) → p < n → at points.now p < q field) × Vanishes field points.now marks.now i c row.old }
     ensures { Vanishes field points.now marks.now (i + 1) result row.new }
 {
-    if marks[i] == 1 {
+    let lost = marks[i] == 1;
+    if lost {
         return c;
     }
     let to = interpolation::block_end(c + 1);

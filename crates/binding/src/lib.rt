@@ -30,7 +30,8 @@ pub fn weights_into(code: Code, slot: u32, weights: &mut [u8]) -> u32
     let asked = questions::ask(acceptance::code_refusal(code), weights.len() == 16, 5);
     let found = weights::weights_with(asked, acceptance::single(code), slot);
     let refused = found.refusal;
-    if refused != 0 {
+    let stops = refused != 0;
+    if stops {
         return refused;
     }
     let sixteen = found.weights;

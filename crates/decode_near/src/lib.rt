@@ -51,7 +51,8 @@ fn solve_near(
     let logs = tables::log_table();
     let number = copy_mending::mend_copy(shape, word, marks, copy, left, &powers, &logs);
     let verdict = settle_left(shape, copy, left, message, work, &powers, &logs);
-    if verdict != 0 {
+    let unsettled = verdict != 0;
+    if unsettled {
         return Answer {
             refusal: verdict,
             value: 0,

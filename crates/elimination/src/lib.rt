@@ -26,7 +26,8 @@ fn take_slot(
     ensures { Taken shape p word.now marks.now work.old work.new result }
 {
     let i = p as usize;
-    if marks[i] == 1 {
+    let lost = marks[i] == 1;
+    if lost {
         return true;
     }
     let k = shape.k as usize;

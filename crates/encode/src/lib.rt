@@ -56,7 +56,8 @@ pub fn write_message(
     ensures { codeword.new ≡ encoded shape message.now }
 {
     let missing = layout::missing_of(shape) as usize;
-    if missing == 0 {
+    let whole = missing == 0;
+    if whole {
         evaluation::write_codeword(shape, message, 0, codeword, powers, logs);
     } else {
         let long = message.len() + missing;
@@ -72,7 +73,8 @@ pub fn encode_with(refusal: u32, shape: Shape, message: &[u8], codeword: &mut [u
     ensures { EncodeSays refusal shape message.now result codeword.old codeword.new }
 {
     let refused = encode_refusal(refusal, shape, message, codeword.len());
-    if refused != 0 {
+    let stops = refused != 0;
+    if stops {
         return refused;
     }
     let powers = tables::power_table();

@@ -20,7 +20,8 @@ pub fn strips_are(l: usize, n: usize, length: usize) -> bool
     if l < 1 {
         return false;
     }
-    if l > 4096 {
+    let long = l > 4096;
+    if long {
         return false;
     }
     length == n * l

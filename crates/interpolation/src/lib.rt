@@ -88,7 +88,8 @@ fn symbol_at(word: &[u8], marks: &[u8], p: usize) -> u8
     requires { (p < length marks.now) × (at marks.now p ≢ 1 → p < length word.now) }
     ensures { result ≡ masked (at word.now p) (at marks.now p) }
 {
-    if marks[p] == 1 {
+    let lost = marks[p] == 1;
+    if lost {
         return 0;
     }
     word[p]

@@ -18,7 +18,8 @@ fn group_below(shape: Shape, group: u32, word: &[u8], marks: &[u8]) -> bool
     let members = layout::members_of(shape, group) as usize;
     let step = layout::step_of(shape) as usize;
     let first = layout::first_of(shape, group) as usize;
-    if questions::losses_from(marks, first, step, members) != 1 {
+    let left = questions::losses_from(marks, first, step, members) != 1;
+    if left {
         return true;
     }
     let q = tables::order(shape.field);
@@ -61,7 +62,8 @@ pub fn local_pass_with(refusal: u32, shape: Shape, word: &mut [u8], marks: &mut 
     ensures { PassSays refusal shape word.old marks.old result word.new marks.new }
 {
     let refused = pass_refusal(refusal, shape, word, marks);
-    if refused != 0 {
+    let stops = refused != 0;
+    if stops {
         return Answer {
             refusal: refused,
             value: 0,

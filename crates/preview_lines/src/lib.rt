@@ -30,7 +30,8 @@ fn put_safe(text: &mut [u8], at: usize, slot: u32, grade: u32) -> usize
     requires { (at + 4 ≤ length text.old) × (slot < 1000) }
     ensures { Puts (cond (eqb grade 4) [] (spaced slot)) text.old at text.new result × (result ≤ at + 4) }
 {
-    if grade == 4 {
+    let undecided = grade == 4;
+    if undecided {
         return at;
     }
     text::put_spaced(text, at, slot)
@@ -52,7 +53,8 @@ fn put_slots(
     let mut last: usize = 0;
     let mut slot: u32 = 0;
     while slot < n {
-        if marks[slot as usize] != 1 {
+        let kept = marks[slot as usize] != 1;
+        if kept {
             let seen = previewing::preview_in(shape, slot, marks, work);
             lines = put_slot(text, lines, slot, seen.grade, seen.first);
             last = put_safe(safe, last, slot, seen.grade);

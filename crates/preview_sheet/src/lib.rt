@@ -32,7 +32,8 @@ fn put_preview(
 pub fn preview_sheet(input: &[u8], text: &mut [u8]) -> Answer
     ensures { SheetPreviewSays input.now text.old text.new result }
 {
-    if text.len() < 8420 {
+    let small = text.len() < 8420;
+    if small {
         return Answer {
             refusal: 5,
             value: 0,

@@ -56,7 +56,8 @@ fn highest(entries: &[u8]) -> u8
 pub fn strips_below(entries: &[u8], most: u32) -> bool
     ensures { result ≡ all_below most entries.now }
 {
-    if most > 255 {
+    let any_byte = most > 255;
+    if any_byte {
         return true;
     }
     if entries.len() == 0 {
@@ -73,7 +74,8 @@ pub fn losses_from(marks: &[u8], first: usize, step: usize, number: usize) -> us
     let mut lost: usize = 0;
     let mut i: usize = 0;
     while i < number {
-        if marks[first + i * step] == 1 {
+        let is_lost = marks[first + i * step] == 1;
+        if is_lost {
             lost += 1;
         }
         i += 1;
@@ -96,7 +98,8 @@ pub fn symbols_from(
     let mut i: usize = 0;
     while i < number {
         let p = first + i * step;
-        if marks[p] != 1 {
+        let kept = marks[p] != 1;
+        if kept {
             if word[p] as u32 >= most {
                 return false;
             }

@@ -64,7 +64,8 @@ fn put_report(
 pub fn report(input: &[u8], text: &mut [u8]) -> Answer
     ensures { ReportSays input.now text.old text.new result }
 {
-    if text.len() < 1032 {
+    let small = text.len() < 1032;
+    if small {
         return Answer {
             refusal: 5,
             value: 0,

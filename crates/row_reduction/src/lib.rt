@@ -19,7 +19,8 @@ fn clear_entry(
     requires { Powers 1 powers.now × Logs logs.now × (n ≤ 16) × (n * 16 ≤ length rows.old) × (a < n) × (b < n) × Elements field rows.old }
     ensures { Reduced field n rows.old rows.new }
 {
-    if a == b {
+    let own = a == b;
+    if own {
         return;
     }
     let c = arithmetic::mul(field, rows[a * 16 + b], turn, powers, logs);

@@ -12,7 +12,8 @@ pub fn read_into(sheet: &[u8], word: &mut [u8], marks: &mut [u8], code: &mut [u3
     }
     let read = sheet::read_sheet(sheet, word, marks);
     let refused = read.refusal;
-    if refused != 0 {
+    let stops = refused != 0;
+    if stops {
         return refused;
     }
     binding::put_code(read.code, code);

@@ -84,7 +84,8 @@ pub fn solve_within(
     requires { Decodable shape × Received shape word.now marks.now × (length message.old ≡ shape.k) × (lost_number shape marks.now ≤ guarantee shape) × Powers 1 powers.now × Logs logs.now }
     ensures { Verdict shape word.now marks.now message.old message.new result }
 {
-    if layout::missing_of(shape) != 0 {
+    let short = layout::missing_of(shape) != 0;
+    if short {
         return solve_short(shape, word, marks, message, powers, logs);
     }
     fitting::solve_within(shape, word, marks, message, powers, logs)

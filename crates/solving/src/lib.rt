@@ -25,7 +25,8 @@ pub fn solve_sure(
 {
     let lost = losses::count_lost(shape, marks);
     let sure = losses::guarantee_of(shape);
-    if lost > sure {
+    let beyond = lost > sure;
+    if beyond {
         return 11;
     }
     short_fitting::solve_within(shape, word, marks, message, powers, logs)

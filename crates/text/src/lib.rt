@@ -74,7 +74,8 @@ fn put_wiring(text: &mut [u8], at: usize, wiring: u32) -> usize
     requires { at + 4 ≤ length text.old }
     ensures { Puts (wiring_mark wiring) text.old at text.new result × (result ≤ at + 4) }
 {
-    if wiring != 1 {
+    let unwired = wiring != 1;
+    if unwired {
         return at;
     }
     put_spaced(text, at, wiring)

@@ -5,8 +5,8 @@ use Rattle.code.proofs.Questions.{ask_no, ask_yes}
 use Rattle.acceptance.proofs.Fits.{wiring_large, wiring_none, wiring_odd, wiring_good}
 use Rattle.acceptance.proofs.wiring_refusal.Goals as goal
 
-pub returns-then-wiring-gt1 : goal.returns-then-wiring-gt1
-returns-then-wiring-gt1 c = ask_no 17 0 (wiring_large (single c.args.code) c.if-wiring-gt1.true)
+pub returns-then-unknown : goal.returns-then-unknown
+returns-then-unknown c = ask_no 17 0 (wiring_large (single c.args.code) c.if-unknown.true)
 
 pub returns-then-wiring-eq0 : goal.returns-then-wiring-eq0
 returns-then-wiring-eq0 c = ask_yes 17 (wiring_none (single c.args.code) c.if-wiring-eq0.true) refl
@@ -19,4 +19,4 @@ returns-then-last-ne0 c =
 pub returns : goal.returns
 unfolding size
 returns c =
-    ask_yes 17 (wiring_good (single c.args.code) c.if-wiring-gt1.false c.if-wiring-eq0.false (sym c.requires ∙ c.if-last-ne0.false)) refl
+    ask_yes 17 (wiring_good (single c.args.code) c.if-unknown.false c.if-wiring-eq0.false (sym c.requires ∙ c.if-last-ne0.false)) refl

@@ -10,10 +10,10 @@ use Rattle.annihilator.proofs.take_place.Goals.{Start}
 few : (c : Start) → c.args.c + 1 < 256
 few c = omega (arith, c.requires.0, c.requires.1, c.requires.4.taken, count_most (kept c.args.marks.now) c.args.i)
 
-pub returns-then-marks-i-eq1 : goal.returns-then-marks-i-eq1
-returns-then-marks-i-eq1 c =
+pub returns-then-lost : goal.returns-then-lost
+returns-then-lost c =
     let a = c.args in
-    vanishes_lost a.field a.points.now a.marks.now a.i a.c a.row.now c.requires.4 c.if-marks-i-eq1.true
+    vanishes_lost a.field a.points.now a.marks.now a.i a.c a.row.now c.requires.4 c.if-lost.true
 
 pub overflow_add-c : goal.overflow_add-c
 overflow_add-c c = omega (arith, few (goal.at.overflow_add-c c).Start)
@@ -26,4 +26,4 @@ returns c =
     let a = c.args in
     let w = c.block_end-to in
     vanishes_more a.field a.points.now a.marks.now a.i a.c a.row.now c.requires.4 a.n w.result c.mul_linear.new.basis
-    c.requires.1 w.ensures.0 c.if-marks-i-eq1.false c.requires.3 c.mul_linear.ensures
+    c.requires.1 w.ensures.0 c.if-lost.false c.requires.3 c.mul_linear.ensures

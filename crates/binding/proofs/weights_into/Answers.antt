@@ -32,17 +32,17 @@ weights_with-found-requires c = λ e.
     let o = or_ask_passed c.code_refusal.result _ (sym c.ask-asked.ensures ∙ e) in
     subst Mending (sym c.single.ensures) (mending_of c.args.code (sym c.code_refusal.ensures ∙ o.0))
 
-pub returns-then-refused-ne0 : goal.returns-then-refused-ne0
-returns-then-refused-ne0 c =
+pub returns-then-stops : goal.returns-then-stops
+returns-then-stops c =
     let a = c.args in
-    weights_no a.code a.slot a.weights.now c.weights_with-found.result (said (goal.at.returns-then-refused-ne0 c).After-weights_with-found) c.if-refused-ne0.true
+    weights_no a.code a.slot a.weights.now c.weights_with-found.result (said (goal.at.returns-then-stops c).After-weights_with-found) c.if-stops.true
 
 pub copy-requires : goal.copy-requires
 copy-requires c =
     let a = c.args in
     let y = c.weights_with-found.result in
     let n = before a.code a.slot a.weights.now y in
-    (omega (arith, length_weights n a.code a.slot y (said (goal.at.copy-requires c).After-weights_with-found)), omega (arith, room a.code a.slot a.weights.now y (said (goal.at.copy-requires c).After-weights_with-found) c.if-refused-ne0.false))
+    (omega (arith, length_weights n a.code a.slot y (said (goal.at.copy-requires c).After-weights_with-found)), omega (arith, room a.code a.slot a.weights.now y (said (goal.at.copy-requires c).After-weights_with-found) c.if-stops.false))
 
 pub returns : goal.returns
 returns c =
@@ -50,7 +50,7 @@ returns c =
     let k = c.copy in
     let y = c.weights_with-found.result in
     let n = before a.code a.slot a.weights.now y in
-    let e = c.if-refused-ne0.false in
+    let e = c.if-stops.false in
     weights_yes a.code a.slot a.weights.now y k.new.target (said (goal.at.returns c).After-weights_with-found) e
     (laid_all y.weights (λ i. at y.weights (0 + i)) 16 (length_weights n a.code a.slot y (said (goal.at.returns c).After-weights_with-found)) (λ i h. ap (at y.weights) (zero-add i))
     a.weights.now k.new.target (room a.code a.slot a.weights.now y (said (goal.at.returns c).After-weights_with-found) e) k.ensures)

@@ -34,16 +34,16 @@ write_short-requires c =
       c.requires.0,
       c.requires.1,
       c.requires.2,
-      whole_no c.args.shape (λ z. c.if-missing-eq0.false (m.ensures ∙ z)),
+      whole_no c.args.shape (λ z. c.if-whole.false (m.ensures ∙ z)),
       c.requires.3,
       length-take-le _ (replicate 256 0) (omega (arith, n, length-replicate {A = ℕ} 256 0)) ∙ n.0,
       c.requires.4,
     )
 
-pub returns-then-missing-eq0 : goal.returns-then-missing-eq0
-returns-then-missing-eq0 c =
+pub returns-then-whole : goal.returns-then-whole
+returns-then-whole c =
     let h = c.args.shape in
     let L = c.requires.2 in
     let m = c.missing_of-missing.ensures in
     c.write_codeword.ensures
-    ∙ whole_evaluated h L.family.placed L.second_none (whole_yes h (sym m ∙ c.if-missing-eq0.true)) c.args.message.now (message_is h c.args.message.now c.requires.3)
+    ∙ whole_evaluated h L.family.placed L.second_none (whole_yes h (sym m ∙ c.if-whole.true)) c.args.message.now (message_is h c.args.message.now c.requires.3)

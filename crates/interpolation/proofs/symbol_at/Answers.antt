@@ -3,16 +3,16 @@ use Rattle.algebra.specs.Sequence.{at}
 use Rattle.interpolation.proofs.Marks.{masked_lost, masked_kept}
 use Rattle.interpolation.proofs.symbol_at.Goals as goal
 
-pub returns-then-marks-p-eq1 : goal.returns-then-marks-p-eq1
-returns-then-marks-p-eq1 c =
+pub returns-then-lost : goal.returns-then-lost
+returns-then-lost c =
     let a = c.args in
-    sym (masked_lost (at a.word.now a.p) (at a.marks.now a.p) c.if-marks-p-eq1.true)
+    sym (masked_lost (at a.word.now a.p) (at a.marks.now a.p) c.if-lost.true)
 
 -- a kept place is in the word
 pub bounds-word-p : goal.bounds-word-p
-bounds-word-p c = c.requires.1 c.if-marks-p-eq1.false
+bounds-word-p c = c.requires.1 c.if-lost.false
 
 pub returns : goal.returns
 returns c =
     let a = c.args in
-    sym (masked_kept (at a.word.now a.p) (at a.marks.now a.p) c.if-marks-p-eq1.false)
+    sym (masked_kept (at a.word.now a.p) (at a.marks.now a.p) c.if-lost.false)

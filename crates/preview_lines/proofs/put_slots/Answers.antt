@@ -7,7 +7,7 @@ use Rattle.code.proofs.Bounds.{n_most}
 use Rattle.previewing.specs.Preview.{preview_of}
 use Rattle.preview_lines.proofs.Slots.{put_as, put_none, put_lost, put_kept, put_all, small_preview}
 use Rattle.preview_lines.proofs.put_slots.Goals as goal
-use Rattle.preview_lines.proofs.put_slots.Goals.{then-marks-slot-ne1, else-marks-slot-ne1}
+use Rattle.preview_lines.proofs.put_slots.Goals.{then-kept, else-kept}
 
 pub loop-slot-init : goal.loop-slot-init
 loop-slot-init c =
@@ -37,8 +37,8 @@ loop-slot-preserved c =
     let l = c.loop-slot in
     let v = l.invariant in
     let m = ap (λ xs. at xs l.slot) v.2 in
-    elim c.if-marks-slot-ne1.branch [
-      | then-marks-slot-ne1 w ↦ (
+    elim c.if-kept.branch [
+      | then-kept w ↦ (
         omega arith,
         v.1,
         w.marks-is ∙ w.preview_in-seen.ensures.1 ∙ v.2,
@@ -46,16 +46,16 @@ loop-slot-preserved c =
         ap length w.text-is ∙ w.put_slot-lines.auto.text ∙ v.4,
         ap length w.safe-is ∙ w.put_safe-last.auto.text ∙ v.5,
         put_as w.text-is w.safe-is w.lines-is w.last-is
-            (put_kept v.6 c.requires.0.shape.plain.family w.preview_in-seen.result (λ e. w.if-marks-slot-ne1.true (m ∙ e)) (w.preview_in-seen.ensures.0 ∙ ap (preview_of c.args.shape l.slot) v.2) w.put_slot-lines.ensures w.put_safe-last.ensures),
+            (put_kept v.6 c.requires.0.shape.plain.family w.preview_in-seen.result (λ e. w.if-kept.true (m ∙ e)) (w.preview_in-seen.ensures.0 ∙ ap (preview_of c.args.shape l.slot) v.2) w.put_slot-lines.ensures w.put_safe-last.ensures),
       )
-      | else-marks-slot-ne1 w ↦ (
+      | else-kept w ↦ (
         omega arith,
         v.1,
         w.marks-is ∙ v.2,
         ap length w.work-is ∙ v.3,
         ap length w.text-is ∙ v.4,
         ap length w.safe-is ∙ v.5,
-        put_as w.text-is w.safe-is w.lines-is w.last-is (put_lost v.6 (sym m ∙ w.if-marks-slot-ne1.false)),
+        put_as w.text-is w.safe-is w.lines-is w.last-is (put_lost v.6 (sym m ∙ w.if-kept.false)),
       )
     ]
 

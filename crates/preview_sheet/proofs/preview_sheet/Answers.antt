@@ -4,8 +4,8 @@ use Rattle.text.proofs.Puts.{front_end, front_text}
 use Rattle.preview_sheet.specs.Text.{short, written}
 use Rattle.preview_sheet.proofs.preview_sheet.Goals as goal
 
-pub returns-then-text-lt8420 : goal.returns-then-text-lt8420
-returns-then-text-lt8420 c = short (omega arith) refl refl refl
+pub returns-then-small : goal.returns-then-small
+returns-then-small c = short (omega arith) refl refl refl
 
 pub returns : goal.returns
 returns c =

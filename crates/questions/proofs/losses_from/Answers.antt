@@ -7,16 +7,16 @@ use Rattle.algebra.proofs.Counting.{count_zero, count_yes, count_no, count_most}
 use Rattle.code.specs.Decoding.{lost}
 use Rattle.questions.proofs.losses_from.Invariants.{lost_at}
 use Rattle.questions.proofs.losses_from.Goals as goal
-use Rattle.questions.proofs.losses_from.Goals.{then-marks-first-eq1, else-marks-first-eq1}
+use Rattle.questions.proofs.losses_from.Goals.{then-is_lost, else-is_lost}
 
 pub loop-i-init : goal.loop-i-init
 loop-i-init c = let a = c.args in (omega arith, sym (count_zero (lost_at a.marks.now a.first a.step)))
 
-pub overflow_mul-i : goal.overflow_mul-i
-overflow_mul-i c = omega (arith, c.requires c.loop-i.i c.loop-i-test.true)
+pub overflow_mul-is_lost : goal.overflow_mul-is_lost
+overflow_mul-is_lost c = omega (arith, c.requires c.loop-i.i c.loop-i-test.true)
 
-pub overflow_add-first : goal.overflow_add-first
-overflow_add-first c = omega (arith, c.requires c.loop-i.i c.loop-i-test.true)
+pub overflow_add-is_lost : goal.overflow_add-is_lost
+overflow_add-is_lost c = omega (arith, c.requires c.loop-i.i c.loop-i-test.true)
 
 pub bounds-marks-first : goal.bounds-marks-first
 bounds-marks-first c = c.requires c.loop-i.i c.loop-i-test.true
@@ -38,9 +38,9 @@ loop-i-preserved c =
     let f = lost_at a.marks.now a.first a.step in
     let x = at a.marks.now (a.first + l.i * a.step) in (
       omega (arith, c.loop-i-test.true),
-      elim c.if-marks-first-eq1.branch [
-        | then-marks-first-eq1 w ↦ w.lost-is ∙ ap (λ n. n + 1) l.invariant.1 ∙ count_yes f l.i (eq-eqb x 1 w.if-marks-first-eq1.true)
-        | else-marks-first-eq1 w ↦ w.lost-is ∙ l.invariant.1 ∙ count_no f l.i (ne_eqb x 1 w.if-marks-first-eq1.false)
+      elim c.if-is_lost.branch [
+        | then-is_lost w ↦ w.lost-is ∙ ap (λ n. n + 1) l.invariant.1 ∙ count_yes f l.i (eq-eqb x 1 w.if-is_lost.true)
+        | else-is_lost w ↦ w.lost-is ∙ l.invariant.1 ∙ count_no f l.i (ne_eqb x 1 w.if-is_lost.false)
       ],
     )
 

@@ -20,8 +20,8 @@ decided xs x q H = go (dec_lt x q)
     go (yes l) = lt-ltb x q l ∙ sym (yes_true (all_below q xs) (all_below_intro q xs (λ i h. omega (arith, H.most i h))))
     go (no l) = le-ltb x q (omega arith) ∙ sym (all_below_not q xs H.place H.within (omega (arith, H.there)))
 
-pub returns-then-most-gt255 : goal.returns-then-most-gt255
-returns-then-most-gt255 c =
+pub returns-then-any_byte : goal.returns-then-any_byte
+returns-then-any_byte c =
     let a = c.args in
     sym (yes_true (all_below a.most a.entries.now) (all_below_intro a.most a.entries.now (λ i h. omega (arith, c.shared_slice_known-1.given i))))
 

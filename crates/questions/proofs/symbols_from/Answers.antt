@@ -11,7 +11,7 @@ use Rattle.algebra.proofs.Every.{every_intro, every_not}
 use Rattle.code.specs.Decoding.{lost}
 use Rattle.questions.proofs.symbols_from.Invariants.{fits}
 use Rattle.questions.proofs.symbols_from.Goals as goal
-use Rattle.questions.proofs.symbols_from.Goals.{then-marks-p-ne1+else-word-p, else-marks-p-ne1}
+use Rattle.questions.proofs.symbols_from.Goals.{then-kept+else-word-p, else-kept}
 
 pub loop-i-init : goal.loop-i-init
 loop-i-init c = (omega arith, λ k h. absurd (omega arith))
@@ -32,7 +32,7 @@ bounds-word-p c =
 pub overflow_cast-word : goal.overflow_cast-word
 overflow_cast-word c =
     let a = c.args in
-    omega (arith, c.shared_slice_known-then-marks-p-ne1-1.given (a.first + c.loop-i.i * a.step))
+    omega (arith, c.shared_slice_known-then-kept-1.given (a.first + c.loop-i.i * a.step))
 
 pub returns-then-word-p : goal.returns-then-word-p
 unfolding lost
@@ -40,7 +40,7 @@ returns-then-word-p c =
     let a = c.args in
     let i = c.loop-i.i in
     let p = a.first + i * a.step in
-    let e = ap₂ ◌||◌ (ne_eqb (at a.marks.now p) 1 c.if-marks-p-ne1.true) (le-ltb (at a.word.now p) a.most c.if-word-p.true) in
+    let e = ap₂ ◌||◌ (ne_eqb (at a.marks.now p) 1 c.if-kept.true) (le-ltb (at a.word.now p) a.most c.if-word-p.true) in
     sym (every_not (fits a.word.now a.marks.now a.first a.step a.most) a.number i c.loop-i-test.true e)
 
 pub overflow_add-i : goal.overflow_add-i
@@ -58,9 +58,9 @@ loop-i-preserved c = (omega (arith, c.loop-i-test.true), λ k h. go k h (ℕ_dis
         let p = a.first + c.loop-i.i * a.step in
         let m = eqb (at a.marks.now p) 1 in
         let b = ltb (at a.word.now p) a.most in
-        rw e (elim c.if-marks-p-ne1.branch [
-          | then-marks-p-ne1+else-word-p w ↦ or_right m b (lt→ltb (at a.word.now p) a.most w.if-word-p.false)
-          | else-marks-p-ne1 w ↦ or_left m b (so (eq-eqb (at a.marks.now p) 1 w.if-marks-p-ne1.false))
+        rw e (elim c.if-kept.branch [
+          | then-kept+else-word-p w ↦ or_right m b (lt→ltb (at a.word.now p) a.most w.if-word-p.false)
+          | else-kept w ↦ or_left m b (so (eq-eqb (at a.marks.now p) 1 w.if-kept.false))
         ])
 
 pub returns : goal.returns

@@ -5,8 +5,8 @@ use Rattle.field.proofs.Laws.{laws}
 use Rattle.row_reduction.proofs.Reducing.{reduced_none, reduced_add}
 use Rattle.row_reduction.proofs.clear_entry.Goals as goal
 
-pub returns-then-a-b : goal.returns-then-a-b
-returns-then-a-b c = reduced_none c.args.field c.args.n c.args.rows.now c.requires.6
+pub returns-then-own : goal.returns-then-own
+returns-then-own c = reduced_none c.args.field c.args.n c.args.rows.now c.requires.6
 
 pub overflow_mul-a : goal.overflow_mul-a
 overflow_mul-a c = omega (arith, c.requires.2, c.requires.4)
@@ -28,7 +28,7 @@ overflow_mul-b c = omega (arith, c.requires.2, c.requires.5)
 
 pub add_row-requires : goal.add_row-requires
 add_row-requires c =
-    let t = c.if-a-b in
+    let t = c.if-own in
     (omega (arith, c.requires.3, c.requires.4), omega (arith, c.requires.3, c.requires.5), λ m i h l e. t.false (omega arith))
 
 pub shape_of-rows : goal.shape_of-rows
@@ -39,5 +39,5 @@ returns c =
     let a = c.args in
     let v = c.mul-c in
     let r = c.add_row in
-    reduced_add a.field a.n a.rows.now r.new.work a.a a.b v.result (a.a * 16) (a.b * 16) refl refl c.if-a-b.false
+    reduced_add a.field a.n a.rows.now r.new.work a.a a.b v.result (a.a * 16) (a.b * 16) refl refl c.if-own.false
     (rw v.ensures ((laws a.field).times_below _ _)) c.requires.6 r.ensures c.requires.5

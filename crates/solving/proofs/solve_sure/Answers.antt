@@ -1,8 +1,8 @@
 use Rattle.solving.proofs.Trying.{tried, untried}
 use Rattle.solving.proofs.solve_sure.Goals as goal
 
-pub returns-then-lost-sure : goal.returns-then-lost-sure
-returns-then-lost-sure c = let a = c.args in untried a.shape a.word.now a.marks.now a.message.now
+pub returns-then-beyond : goal.returns-then-beyond
+returns-then-beyond c = let a = c.args in untried a.shape a.word.now a.marks.now a.message.now
 
 pub returns : goal.returns
 returns c =

@@ -7,15 +7,15 @@ use Rattle.text.specs.Text.{spaced, wiring_mark}
 use Rattle.text.proofs.Puts.{puts_as, puts_none}
 use Rattle.text.proofs.put_wiring.Goals as goal
 
-pub returns-then-wiring-ne1 : goal.returns-then-wiring-ne1
+pub returns-then-unwired : goal.returns-then-unwired
 unfolding wiring_mark
-returns-then-wiring-ne1 c =
+returns-then-unwired c =
     let a = c.args in
-    (puts_as (ap (λ b. cond b (spaced a.wiring) []) (sym (ne_eqb a.wiring 1 c.if-wiring-ne1.true))) (puts_none a.text.now a.at), omega arith)
+    (puts_as (ap (λ b. cond b (spaced a.wiring) []) (sym (ne_eqb a.wiring 1 c.if-unwired.true))) (puts_none a.text.now a.at), omega arith)
 
 pub returns : goal.returns
 unfolding wiring_mark
 returns c =
     let a = c.args in
     let p = c.put_spaced.ensures in
-    (puts_as (ap (λ b. cond b (spaced a.wiring) []) (sym (eq-eqb a.wiring 1 c.if-wiring-ne1.false))) p.0, p.1)
+    (puts_as (ap (λ b. cond b (spaced a.wiring) []) (sym (eq-eqb a.wiring 1 c.if-unwired.false))) p.0, p.1)
