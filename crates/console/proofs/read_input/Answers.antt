@@ -8,8 +8,8 @@ use lib.Seq.{take-add, take-append-le}
 use Rattle.console.proofs.read_input.Goals as goal
 
 -- the front of a buffer in which a part was written: what stood before the part, and the part's own front
-front-put_mid : (a k n : ℕ) (xs ys : List ℕ) → a ≤ length xs → n ≤ length ys → take a xs ++ take n ys ≡ take (a + n) (put_mid a k xs ys)
-front-put_mid a k n xs ys within fits =
+front_put_mid : (a k n : ℕ) (xs ys : List ℕ) → a ≤ length xs → n ≤ length ys → take a xs ++ take n ys ≡ take (a + n) (put_mid a k xs ys)
+front_put_mid a k n xs ys within fits =
     let whole = put_mid a k xs ys in
     let before = take-put_mid_below a k xs ys a (le_refl a) within in
     let part = ap (take n) (drop_at (take a xs) (ys ++ post_of a k xs) a (length-take-le a xs within)) ∙ take-append-le n ys (post_of a k xs) fits in
@@ -19,7 +19,7 @@ pub loop-len-preserved : goal.loop-len-preserved
 loop-len-preserved g c =
     let at = c.loop-len.len in
     let turn = c.read_once-turn in
-    let front = front-put_mid at (length c.loop-len.buf - at) turn.result.len c.loop-len.buf turn.new.buf c.loop-len.invariant.within turn.ensures.bound in
+    let front = front_put_mid at (length c.loop-len.buf - at) turn.result.len c.loop-len.buf turn.new.buf c.loop-len.invariant.within turn.ensures.bound in
     record {
       within = omega arith;
       read = subst (Consumes _ _) front (Consumes-trans _ _ _ _ _ c.loop-len.invariant.read turn.ensures.bytes);
