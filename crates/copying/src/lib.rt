@@ -10,11 +10,7 @@ pub fn copy(source: &[u8], start: usize, n: usize, target: &mut [u8], to: usize)
     requires { (start + n ≤ length source.now) × (to + n ≤ length target.old) }
     ensures { Laid (λ i. at source.now (start + i)) to n target.old target.new }
 {
-    let mut i: usize = 0;
-    while i < n {
-        target[to + i] = source[start + i];
-        i += 1;
-    }
+    target[to..to + n].copy_from_slice(&source[start..start + n]);
 }
 
 // Copies numbers to a buffer of as many.
@@ -22,20 +18,12 @@ pub fn copy_numbers(from: &[u32], to: &mut [u32])
     requires { length to.old ≡ length from.now }
     ensures { to.new ≡ from.now }
 {
-    let mut i: usize = 0;
-    while i < to.len() {
-        to[i] = from[i];
-        i += 1;
-    }
+    to.copy_from_slice(from);
 }
 
 // Writes 0 to every place.
 pub fn clear(s: &mut [u8])
     ensures { s.new ≡ replicate (length s.old) 0 }
 {
-    let mut i: usize = 0;
-    while i < s.len() {
-        s[i] = 0;
-        i += 1;
-    }
+    s.fill(0);
 }
