@@ -26,14 +26,7 @@ pub fn ask(asked: u32, yes: bool, number: u32) -> u32
 pub fn all_below(entries: &[u8], most: u32) -> bool
     ensures { result ≡ all_below most entries.now }
 {
-    let mut i = entries.len();
-    while i > 0 {
-        i -= 1;
-        if entries[i] as u32 >= most {
-            return false;
-        }
-    }
-    true
+    entries.iter().all(|x| (*x as u32) < most)
 }
 
 // The highest entry. The loop cannot end early: the compiler makes vectors of it.
@@ -42,12 +35,10 @@ fn highest(entries: &[u8]) -> u8
     ensures { Highest (length entries.now) entries.now result }
 {
     let mut high = entries[0];
-    let mut i: usize = 1;
-    while i < entries.len() {
-        if entries[i] > high {
-            high = entries[i];
+    for x in entries {
+        if *x > high {
+            high = *x;
         }
-        i += 1;
     }
     high
 }
@@ -57,10 +48,7 @@ pub fn strips_below(entries: &[u8], most: u32) -> bool
     ensures { result ≡ all_below most entries.now }
 {
     let any_byte = most > 255;
-    if any_byte {
-        return true;
-    }
-    if entries.len() == 0 {
+    if any_byte || entries.is_empty() {
         return true;
     }
     (highest(entries) as u32) < most
@@ -72,13 +60,11 @@ pub fn losses_from(marks: &[u8], first: usize, step: usize, number: usize) -> us
     ensures { result ≡ losses_from marks.now first step number }
 {
     let mut lost: usize = 0;
-    let mut i: usize = 0;
-    while i < number {
+    for i in 0..number {
         let is_lost = marks[first + i * step] == 1;
         if is_lost {
             lost += 1;
         }
-        i += 1;
     }
     lost
 }
@@ -95,18 +81,10 @@ pub fn symbols_from(
     requires { (length word.now ≡ length marks.now) × ((i : ℕ) → i < number → first + i * step < length marks.now) }
     ensures { result ≡ symbols_from most word.now marks.now first step number }
 {
-    let mut i: usize = 0;
-    while i < number {
+    (0..number).all(|i| {
         let p = first + i * step;
-        let kept = marks[p] != 1;
-        if kept {
-            if word[p] as u32 >= most {
-                return false;
-            }
-        }
-        i += 1;
-    }
-    true
+        marks[p] == 1 || (word[p] as u32) < most
+    })
 }
 
 // Whether every kept symbol is below q.

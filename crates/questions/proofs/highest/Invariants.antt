@@ -1,10 +1,8 @@
-use Prim.Native.Nat.{◌-◌, ◌≤◌}
+use mathlib.Core.Path.{◌≡◌}
+use Prim.Native.Nat.{ℕ, ◌≤◌, ◌<◌}
 use lib.ListN.{length}
-use Rattle.questions.specs.Step.{Highest}
+use Rattle.algebra.specs.Sequence.{at}
 use Rattle.questions.proofs.highest.Given as goal
 
-abbrev pub invariant-loop-i : goal.invariant-loop-i
-invariant-loop-i l = (l.i ≤ length l.entries) × Highest l.i l.entries l.high
-
-abbrev pub decreases-loop-i : goal.decreases-loop-i
-decreases-loop-i l = length l.entries - l.i
+abbrev pub invariant-loop-x : goal.invariant-loop-x
+invariant-loop-x l = ((k : ℕ) × (k < length l.entries) × (at l.entries k ≡ l.high)) × ((k : ℕ) → k < l.x-index → at l.entries k ≤ l.high)

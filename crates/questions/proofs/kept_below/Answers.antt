@@ -11,9 +11,6 @@ use Rattle.code.specs.Erasure.{kept_below}
 use Rattle.questions.specs.Step.{symbols_from}
 use Rattle.questions.proofs.kept_below.Goals as goal
 
-pub symbols_from-requires : goal.symbols_from-requires
-symbols_from-requires c = (omega (arith, c.requires), λ i h. omega (arith, c.requires))
-
 pub returns : goal.returns
 unfolding kept_below
 returns c =
