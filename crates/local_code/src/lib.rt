@@ -33,11 +33,9 @@ fn local_polynomial(
 {
     let field = shape.field;
     let r = shape.r as usize;
-    let mut m = row.len();
-    let mut i = m % r;
+    let mut i = row.len() % r;
     let mut local = [0u8; 16];
-    while m > 0 {
-        m -= 1;
+    for m in (0..row.len()).rev() {
         i = place_before(i, r);
         local[i] = arithmetic::mul_add(field, row[m], y, local[i], powers, logs);
     }
@@ -51,57 +49,48 @@ fn points_of(shape: Shape, group: u32, powers: &[u8; 255]) -> [u8; 17]
 {
     let size = layout::size_of(shape);
     let mut points = [0u8; 17];
-    let mut i: u32 = 0;
-    while i < size {
+    for i in 0..size {
         points[i as usize] = layout::point_at(shape, group, i, powers);
-        i += 1;
     }
     points
 }
 
-// Horner's step at the first size points: each value times its point, plus a.
+// Horner's step at points: each value times its point, plus a.
 fn horner_step(
     field: u32,
     a: u8,
     points: &[u8],
-    size: usize,
     values: &mut [u8],
     powers: &[u8; 255],
     logs: &[u8; 256],
 )
-    requires { Powers 1 powers.now × Logs logs.now × (size ≤ length points.now) × (size ≤ length values.old) }
-    ensures { HornerStep field a points.now size values.old values.new }
+    requires { Powers 1 powers.now × Logs logs.now × (length values.old ≡ length points.now) }
+    ensures { HornerStep field a points.now (length points.now) values.old values.new }
 {
-    let mut i: usize = 0;
-    while i < size {
-        values[i] = arithmetic::mul_add(field, a, points[i], values[i], powers, logs);
-        i += 1;
+    for (i, value) in values.iter_mut().enumerate() {
+        *value = arithmetic::mul_add(field, a, points[i], *value, powers, logs);
     }
 }
 
-// The values at the first size points of the polynomial with r coefficients.
+// The values at points of the polynomial with these coefficients.
 fn values_at(
     field: u32,
     coefficients: &[u8],
-    r: usize,
     points: &[u8],
-    size: usize,
     powers: &[u8; 255],
     logs: &[u8; 256],
 ) -> [u8; 17]
-    requires { Powers 1 powers.now × Logs logs.now × (r ≤ length coefficients.now) × (size ≤ length points.now) × (size ≤ 17) }
-    ensures { ValuesAt field (take r coefficients.now) points.now size result }
+    requires { Powers 1 powers.now × Logs logs.now × (length points.now ≤ 17) }
+    ensures { ValuesAt field coefficients.now points.now (length points.now) result }
 {
     let mut values = [0u8; 17];
-    let mut i = r;
-    while i > 0 {
-        i -= 1;
+    let size = points.len();
+    for i in (0..coefficients.len()).rev() {
         horner_step(
             field,
             coefficients[i],
             points,
-            size,
-            &mut values,
+            &mut values[..size],
             powers,
             logs,
         );
@@ -123,10 +112,10 @@ pub fn group_symbols(
 {
     let field = shape.field;
     let r = shape.r as usize;
-    let size = layout::size_of(shape);
+    let size = layout::size_of(shape) as usize;
     let points = points_of(shape, group, powers);
     let power = layout::group_power(shape, group, powers);
     let y = arithmetic::sub(field, power, c);
     let local = local_polynomial(shape, row, y, powers, logs);
-    values_at(field, &local, r, &points, size as usize, powers, logs)
+    values_at(field, &local[..r], &points[..size], powers, logs)
 }

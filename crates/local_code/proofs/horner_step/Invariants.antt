@@ -1,11 +1,7 @@
-use Prim.Native.Nat.{◌-◌, ◌≤◌}
 use Rattle.algebra.specs.Sequence.{at}
 use Rattle.algebra.proofs.Filling.{Filled}
 use Rattle.field.specs.Field.{plus, times}
 use Rattle.local_code.proofs.horner_step.Given as goal
 
 abbrev pub invariant-loop-i : goal.invariant-loop-i
-invariant-loop-i l = (l.i ≤ l.size) × Filled (λ m. plus l.field l.a (times l.field (at l.points m) (at l.initial.values m))) l.i l.initial.values l.values
-
-abbrev pub decreases-loop-i : goal.decreases-loop-i
-decreases-loop-i l = l.size - l.i
+invariant-loop-i l = Filled (λ m. plus l.field l.a (times l.field (at l.points m) (at l.initial.values m))) l.i l.initial.values l.values
