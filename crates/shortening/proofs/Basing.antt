@@ -23,7 +23,7 @@ use Rattle.algebra.proofs.Strands.{map_take, map_drop}
 use Rattle.algebra.proofs.Based.{based, based_first, block_more, based_block}
 use Rattle.field.specs.Field.{q, plus, times}
 use Rattle.field.proofs.Laws.{laws}
-use Rattle.field.proofs.Elem.{Elem, same, ring_of, el, zero_below, el_zero, plus_times_zero}
+use Rattle.field.proofs.Elem.{Elem, ring_of, el, zero_below, el_zero, plus_times_zero}
 use Rattle.field.proofs.Elements.{els}
 use Rattle.field.proofs.Values.{el_scaled}
 use Rattle.code.specs.declared.Shape.{Shape}
@@ -151,8 +151,8 @@ block_written f r c start n to a b rest z d L W =
     }
 
 -- where blocks start, of which there are as many as are whole
-pub before_block : (b i r : ℕ) → i < b → (b - (i + 1)) * r + r ≡ (b - i) * r
-before_block b i r h = let e : b - i ≡ suc (b - (i + 1)) = omega arith in sym (ap (λ n. n * r) e ∙ omega arith)
+pub before_block : (b r : ℕ) → 0 < b → (b - 1) * r + r ≡ b * r
+before_block b r h = let e : b ≡ suc (b - 1) = omega arith in sym (ap (λ n. n * r) e ∙ omega arith)
 
-pub block_inside : (n r i : ℕ) → (n / r - i) * r ≤ n
-block_inside n r i = let l : n / r - i ≤ n / r = omega arith in omega (arith, mul-le-mul_right r l, div-mul-le_self n r)
+pub block_inside : (n r b : ℕ) → b ≤ n / r → b * r ≤ n
+block_inside n r b h = omega (arith, mul-le-mul_right r h, div-mul-le_self n r)

@@ -52,11 +52,8 @@ fn move_base(shape: Shape, row: &mut [u8], c: u8)
 {
     let field = shape.field;
     let r = shape.r as usize;
-    let blocks = row.len() / r;
-    let mut i: usize = 0;
-    while i < blocks {
-        i += 1;
-        add_block(field, row, (blocks - i) * r, r, c);
+    for block in (0..row.len() / r).rev() {
+        add_block(field, row, block * r, r, c);
     }
 }
 
@@ -66,9 +63,7 @@ fn div_root(field: u32, coefs: &mut [u8; 16], y: u8, powers: &[u8; 255], logs: &
     ensures { Divided field y coefs.old coefs.new }
 {
     let mut value: u8 = 0;
-    let mut i: usize = 16;
-    while i > 0 {
-        i -= 1;
+    for i in (0..16).rev() {
         let own = coefs[i];
         coefs[i] = value;
         value = arithmetic::mul_add(field, own, y, value, powers, logs);
@@ -85,9 +80,7 @@ fn last_symbols(shape: Shape, row: &[u8], powers: &[u8; 255], logs: &[u8; 256]) 
     let r = shape.r as usize;
     let mut coefs = [0u8; 16];
     copying::copy(row, 0, r, &mut coefs, 0);
-    let mut i = layout::missing_of(shape);
-    while i > 0 {
-        i -= 1;
+    for i in (0..layout::missing_of(shape)).rev() {
         let y = layout::point_of(shape, shape.n + i, powers);
         div_root(field, &mut coefs, y, powers, logs);
     }

@@ -1,30 +1,17 @@
 use mathlib.Core.Path.{◌≡◌, subst}
 use Prim.Native.Nat.{suc, ◌-◌}
 use native.Mathlib.Omega.{arith}
-use Rattle.shortening.proofs.Division.{Dividing, dividing_none, dividing_more, dividing_done}
+use Rattle.shortening.proofs.Division.{Dividing, dividing_none, dividing_more}
 use Rattle.shortening.proofs.div_root.Goals as goal
 
 pub loop-i-init : goal.loop-i-init
-loop-i-init c = let a = c.args in (omega arith, dividing_none a.field a.y 16 a.coefs.now (omega (arith, c.requires.2)))
-
-pub mul_add-value-requires : goal.mul_add-value-requires
-mul_add-value-requires c = (c.requires.0, c.requires.1)
+loop-i-init c = let a = c.args in dividing_none a.field a.y 16 a.coefs.now (omega (arith, c.requires.2))
 
 pub loop-i-preserved : goal.loop-i-preserved
 loop-i-preserved c =
     let a = c.args in
     let l = c.loop-i in
     let i = l.i - 1 in
-    let e : l.i ≡ suc i = omega arith in (
-      omega arith,
-      dividing_more a.field a.y i l.value c.mul_add-value.result a.coefs.now l.coefs (omega (arith, c.requires.2)) c.mul_add-value.ensures
-          (subst (λ n. Dividing a.field a.y n l.value a.coefs.now l.coefs) e l.invariant.1),
-    )
-
-pub returns : goal.returns
-returns c =
-    let a = c.args in
-    let l = c.loop-i in
-    let z : l.i ≡ 0 = omega arith in
-    dividing_done a.field a.y l.value a.coefs.now l.coefs
-    (subst (λ n. Dividing a.field a.y n l.value a.coefs.now l.coefs) z l.invariant.1)
+    let e : l.i ≡ suc i = omega arith in
+    dividing_more a.field a.y i l.value c.mul_add-value.result a.coefs.now l.coefs (omega (arith, c.requires.2)) c.mul_add-value.ensures
+    (subst (λ n. Dividing a.field a.y n l.value a.coefs.now l.coefs) e l.invariant)
