@@ -26,10 +26,8 @@ fn write_group(
     let first = layout::first_of(shape, group) as usize;
     let step = layout::step_of(shape) as usize;
     let symbols = local_code::group_symbols(shape, row, c, group, powers, logs);
-    let mut i: usize = 0;
-    while i < members {
+    for i in 0..members {
         codeword[first + i * step] = symbols[i];
-        i += 1;
     }
 }
 
@@ -45,10 +43,7 @@ pub fn write_codeword(
     requires { Powers 1 powers.now × Logs logs.now × Placed shape × (length codeword.old ≡ shape.n) }
     ensures { codeword.new ≡ evaluated shape c row.now }
 {
-    let groups = layout::groups_of(shape);
-    let mut group: u32 = 0;
-    while group < groups {
+    for group in 0..layout::groups_of(shape) {
         write_group(shape, row, c, group, codeword, powers, logs);
-        group += 1;
     }
 }

@@ -27,12 +27,10 @@ fn mul_root(
 {
     let k = arithmetic::sub(field, 0, y);
     let mut before: u8 = 0;
-    let mut p: usize = 0;
-    while p < to {
+    for p in 0..to {
         let own = coefs[p];
         coefs[p] = arithmetic::mul_add(field, before, k, own, powers, logs);
         before = own;
-        p += 1;
     }
 }
 
@@ -51,9 +49,7 @@ fn tail_of(
     let mut coefs = [0u8; 16];
     let mut to = message.len() - lead;
     copying::copy(message, lead, to, &mut coefs, 0);
-    let mut i = layout::missing_of(shape);
-    while i > 0 {
-        i -= 1;
+    for i in (0..layout::missing_of(shape)).rev() {
         to += 1;
         let y = layout::point_of(shape, shape.n + i, powers);
         mul_root(field, &mut coefs, to, y, powers, logs);

@@ -1,10 +1,7 @@
-use Prim.Native.Nat.{◌+◌, ◌*◌, ◌-◌, ◌≤◌}
+use Prim.Native.Nat.{◌+◌, ◌*◌}
 use Rattle.algebra.proofs.Scattered.{Scattered}
 use Rattle.evaluation.proofs.write_group.Given as goal
 
 abbrev pub invariant-loop-i : goal.invariant-loop-i
 invariant-loop-i l =
-    (l.i ≤ l.members) × Scattered (λ m. l.first + m * l.step) l.symbols l.i l.initial.codeword l.codeword
-
-abbrev pub decreases-loop-i : goal.decreases-loop-i
-decreases-loop-i l = l.members - l.i
+    Scattered (λ m. l.first + m * l.step) l.symbols l.i l.initial.codeword l.codeword

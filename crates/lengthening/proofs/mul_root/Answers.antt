@@ -1,7 +1,7 @@
 use mathlib.Core.Path.{◌≡◌, refl, ap, ap₂, ◌∙◌}
-use Prim.Native.Nat.{suc, ◌+◌, ◌-◌}
+use Prim.Native.Nat.{suc, ◌+◌}
 use native.Mathlib.Omega.{arith}
-use Rattle.algebra.proofs.Writing.{writing_none, writing_more, writing_done}
+use Rattle.algebra.proofs.Writing.{writing_none, writing_more}
 use Rattle.field.specs.Field.{plus, times}
 use Rattle.lengthening.specs.Step.{lower}
 use Rattle.lengthening.proofs.mul_root.Goals as goal
@@ -9,9 +9,6 @@ use Rattle.lengthening.proofs.mul_root.Goals as goal
 pub loop-p-init : goal.loop-p-init
 unfolding lower
 loop-p-init c = (writing_none (omega arith), refl)
-
-pub mul_add-requires : goal.mul_add-requires
-mul_add-requires c = (c.requires.0, c.requires.1)
 
 pub loop-p-preserved : goal.loop-p-preserved
 unfolding lower
@@ -24,6 +21,3 @@ loop-p-preserved c =
           (c.mul_add.ensures ∙ ap₂ (plus f) l.invariant.1 (ap₂ (times f) c.sub-k.ensures own)) l.invariant.0,
       own ∙ ap (lower c.args.coefs.now) next,
     )
-
-pub returns : goal.returns
-returns c = writing_done c.loop-p-test.false c.loop-p.invariant.0

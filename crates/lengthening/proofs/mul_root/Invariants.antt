@@ -1,5 +1,4 @@
 use mathlib.Core.Path.{◌≡◌}
-use Prim.Native.Nat.{◌-◌}
 use Rattle.algebra.specs.Sequence.{at}
 use Rattle.algebra.proofs.Writing.{Writing}
 use Rattle.field.specs.Field.{plus, minus, times}
@@ -9,6 +8,3 @@ use Rattle.lengthening.proofs.mul_root.Given as goal
 abbrev pub invariant-loop-p : goal.invariant-loop-p
 invariant-loop-p l =
     Writing (λ i. plus l.field (lower l.initial.coefs i) (times l.field (minus l.field 0 l.y) (at l.initial.coefs i))) 0 l.to l.p l.initial.coefs l.coefs × (l.before ≡ lower l.initial.coefs l.p)
-
-abbrev pub decreases-loop-p : goal.decreases-loop-p
-decreases-loop-p l = l.to - l.p

@@ -30,19 +30,15 @@ loop-i-init c =
     (laid_done n
     (laid_same (λ i h. sym (get_or-drop a.lead a.message.now (0 + i) 0 ∙ ap (λ n. at a.message.now (a.lead + n)) (zero-add i))) c.copy.ensures)))
 
-pub overflow_add-to : goal.overflow_add-to
-overflow_add-to c =
-    omega (arith, c.requires.3, c.requires.4, r_most c.args.shape c.requires.2, c.loop-i.invariant.number, length-drop c.args.lead c.args.message.now)
-
 pub overflow_add-shape : goal.overflow_add-shape
 overflow_add-shape c =
     let l = c.loop-i in
-    omega (arith, room_byte c.args.shape c.requires.2, missing_inside c.args.shape c.requires.2 (l.i - 1) (omega (arith, l.invariant.most)))
+    omega (arith, room_byte c.args.shape c.requires.2, missing_inside c.args.shape c.requires.2 (l.i - 1) (omega (arith, c.missing_of-i.ensures)))
 
 pub point_of-y-requires : goal.point_of-y-requires
 point_of-y-requires c =
     let l = c.loop-i in
-    (c.requires.0, c.requires.2, missing_inside c.args.shape c.requires.2 (l.i - 1) (omega (arith, l.invariant.most)))
+    (c.requires.0, c.requires.2, missing_inside c.args.shape c.requires.2 (l.i - 1) (omega (arith, c.missing_of-i.ensures)))
 
 pub mul_root-requires : goal.mul_root-requires
 mul_root-requires c =

@@ -1,10 +1,6 @@
-use Prim.Native.Nat.{◌-◌}
 use lib.ListN.{drop}
 use Rattle.lengthening.proofs.Tails.{Tailed}
 use Rattle.lengthening.proofs.tail_of.Given as goal
 
 abbrev pub invariant-loop-i : goal.invariant-loop-i
 invariant-loop-i l = Tailed l.shape (drop l.lead l.message) l.i l.to l.coefs
-
-abbrev pub decreases-loop-i : goal.decreases-loop-i
-decreases-loop-i l = l.i
