@@ -1,9 +1,10 @@
 // What marks say of a stripe: its losses and its first broken group; and how many losses it stands for certain.
 #![tactic(auto)]
 
-ghost use Rattle.std.specs.Prelude.{◌≡◌, length};
+ghost use Rattle.std.specs.Prelude.{◌≡◌, ◌<◌, length};
+ghost use Rattle.code.specs.Shape.{groups};
 ghost use Rattle.code.specs.Codeword.{guarantee};
-ghost use Rattle.code.specs.Erasure.{lost_number, first_broken};
+ghost use Rattle.code.specs.Erasure.{lost_number, group_losses, first_broken};
 ghost use Rattle.code.specs.Laws.{Placed, Family};
 
 use code::Shape;
@@ -16,34 +17,29 @@ pub fn count_lost(shape: Shape, marks: &[u8]) -> u32
     questions::losses_from(marks, 0, 1, shape.n as usize) as u32
 }
 
+// How many members of a group are lost.
+fn losses_of(shape: Shape, group: u32, marks: &[u8]) -> usize
+    requires { Placed shape × (group < groups shape) × (length marks.now ≡ shape.n) }
+    ensures { result ≡ group_losses shape group marks.now }
+{
+    let first = layout::first_of(shape, group) as usize;
+    let step = layout::step_of(shape) as usize;
+    let members = layout::members_of(shape, group) as usize;
+    questions::losses_from(marks, first, step, members)
+}
+
 // The first group with more losses than it stands, 255 if none.
 pub fn first_group(shape: Shape, marks: &[u8]) -> u32
     requires { Placed shape × (length marks.now ≡ shape.n) }
     ensures { result ≡ first_broken shape marks.now }
 {
-    let groups = layout::groups_of(shape);
-    let step = layout::step_of(shape);
-    let tolerance = shape.tolerance;
-    let mut j: u32 = 0;
-    'groups: loop {
-        if j == groups {
-            break 255;
+    for group in 0..layout::groups_of(shape) {
+        let lost = losses_of(shape, group, marks);
+        if lost > shape.tolerance as usize {
+            return group;
         }
-        let first = layout::first_of(shape, j);
-        let members = layout::members_of(shape, j);
-        let mut lost: u32 = 0;
-        let mut i: u32 = 0;
-        while i < members {
-            if marks[(first + i * step) as usize] == 1 {
-                lost += 1;
-            }
-            if lost > tolerance {
-                break 'groups j;
-            }
-            i += 1;
-        }
-        j += 1;
     }
+    255
 }
 
 // n - k - tolerance × (⌈k'/r⌉ - 1), k' = k + missing: so many losses never lose a message.
