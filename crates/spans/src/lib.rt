@@ -18,14 +18,12 @@ pub fn lost_member(marks: &[u8], step: usize, number: usize) -> usize
     requires { ((i : ℕ) → i < number → i * step < length marks.now) × (count (λ i. lost marks.now (i * step)) number ≡ 1) }
     ensures { (result < number) × (at marks.now (result * step) ≡ 1) }
 {
-    let mut i: usize = 0;
-    while i < number {
+    for i in 0..number {
         if marks[i * step] == 1 {
             return i;
         }
-        i += 1;
     }
-    i
+    number
 }
 
 // The symbols of a group's span at the mates of a member, with zeros after them.
@@ -36,11 +34,9 @@ pub fn mates_of(shape: Shape, group: u32, part: &[u8], member: u32) -> [u8; 16]
     let number = layout::members_of(shape, group) - 1;
     let step = layout::step_of(shape);
     let mut symbols = [0u8; 16];
-    let mut i: u32 = 0;
-    while i < number {
+    for i in 0..number {
         let mate = layout::mate_member(member, i);
         symbols[i as usize] = part[(mate * step) as usize];
-        i += 1;
     }
     symbols
 }

@@ -42,7 +42,7 @@ few : (c : After-members_of-number) → c.members_of-number.result ≤ 17
 few c = omega (arith, c.members_of-number.ensures.2, c.requires.0.placed.size_most)
 
 pub loop-i-init : goal.loop-i-init
-loop-i-init c = let a = c.args in (omega arith, filled_none (symbol_at a.part.now c.step_of-step.result a.member) (replicate 16 0))
+loop-i-init c = let a = c.args in filled_none (symbol_at a.part.now c.step_of-step.result a.member) (replicate 16 0)
 
 pub mate_member-mate-requires : goal.mate_member-mate-requires
 mate_member-mate-requires c = omega (arith, few (goal.at.mate_member-mate-requires c).After-members_of-number)
@@ -75,21 +75,16 @@ pub overflow_cast-symbols-in-loop-i : goal.overflow_cast-symbols-in-loop-i
 overflow_cast-symbols-in-loop-i c = omega (arith, few (goal.at.overflow_cast-symbols-in-loop-i c).After-members_of-number)
 
 pub bounds-symbols-i : goal.bounds-symbols-i
-bounds-symbols-i c = omega (arith, few (goal.at.bounds-symbols-i c).After-members_of-number, c.loop-i.invariant.1.size)
-
-pub overflow_add-i : goal.overflow_add-i
-overflow_add-i c = omega (arith, few (goal.at.overflow_add-i c).After-members_of-number)
+bounds-symbols-i c = omega (arith, few (goal.at.bounds-symbols-i c).After-members_of-number, c.loop-i.invariant.size)
 
 pub loop-i-preserved : goal.loop-i-preserved
 loop-i-preserved c =
     let a = c.args in
     let l = c.loop-i in
     let t = c.step_of-step.result in
-    let m = c.mate_member-mate in (
-      omega arith,
-      filled_more (symbol_at a.part.now t a.member) l.i (at a.part.now (m.result * t)) (replicate 16 0) l.symbols
-          (omega (arith, few (goal.at.loop-i-preserved c).After-members_of-number, l.invariant.1.size)) (ap (λ k. at a.part.now (k * t)) m.ensures) l.invariant.1,
-    )
+    let m = c.mate_member-mate in
+    filled_more (symbol_at a.part.now t a.member) l.i (at a.part.now (m.result * t)) (replicate 16 0) l.symbols
+    (omega (arith, few (goal.at.loop-i-preserved c).After-members_of-number, l.invariant.size)) (ap (λ k. at a.part.now (k * t)) m.ensures) l.invariant
 
 pub returns : goal.returns
 returns c =
@@ -97,7 +92,7 @@ returns c =
     let l = c.loop-i in
     let t = c.step_of-step in
     let e : l.i ≡ members a.shape a.group - 1 = omega (arith, c.members_of-number.ensures.0) in
-    let F : Filled (symbol_at a.part.now t.result a.member) (members a.shape a.group - 1) (replicate 16 0) l.symbols = rw e at l.invariant.1 in
+    let F : Filled (symbol_at a.part.now t.result a.member) (members a.shape a.group - 1) (replicate 16 0) l.symbols = rw e at l.invariant in
     sixteen_of (part_mates a.shape a.group a.member a.part.now) (members a.shape a.group - 1) l.symbols
     (sym (length_mates_part a.shape a.group a.member a.part.now))
     (gathered a.shape a.group a.member t.result t.ensures a.part.now (replicate 16 0) l.symbols F)
