@@ -30,12 +30,10 @@ pub fn weights_of(shape: Shape, slot: u32) -> [u8; 16]
     let members = layout::members_of(shape, group);
     let width = layout::width_of(shape);
     let mut weights = [0u8; 16];
-    let mut i: u32 = 0;
-    while i + 1 < members {
+    for i in 0..members - 1 {
         let steps = layout::mate_steps(size, member, i);
         let y = layout::member_point(field, width, 0, steps, &powers);
         weights[i as usize] = arithmetic::sub(field, 0, y);
-        i += 1;
     }
     weights
 }
