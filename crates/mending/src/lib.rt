@@ -64,8 +64,7 @@ pub fn mend_groups(
 {
     let all = layout::groups_of(shape);
     let mut number: u32 = 0;
-    let mut j: u32 = 0;
-    while j < all {
+    for j in 0..all {
         let start = layout::first_of(shape, j) as usize;
         let end = start + layout::span_of(shape, j) as usize;
         let one = mend_group(
@@ -77,7 +76,6 @@ pub fn mend_groups(
             logs,
         );
         number += one;
-        j += 1;
     }
     number
 }

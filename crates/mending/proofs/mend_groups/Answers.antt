@@ -25,10 +25,8 @@ pub loop-j-init : goal.loop-j-init
 loop-j-init c =
     let a = c.args in
     let ws = a.word.now in
-    let ms = a.marks.now in (
-      omega arith,
-      record { word = upto_none a.shape (passed_at a.shape ws ms) ws; marks = upto_none a.shape (mark_at a.shape ws ms) ms; many = sym (count_zero (repairs a.shape ws ms)) },
-    )
+    let ms = a.marks.now in
+    record { word = upto_none a.shape (passed_at a.shape ws ms) ws; marks = upto_none a.shape (mark_at a.shape ws ms) ms; many = sym (count_zero (repairs a.shape ws ms)) }
 
 -- the group is there
 inside : (c : In-loop-j) → c.loop-j.j < groups c.args.shape
@@ -55,7 +53,7 @@ within c inside_here =
 -- both buffers keep their lengths
 lengths : (c : At-loop-j) → let a = c.args in
     (length c.loop-j.word ≡ a.shape.n) × (length c.loop-j.marks ≡ a.shape.n)
-lengths c = (c.loop-j.invariant.1.word.same ∙ c.requires.3, c.loop-j.invariant.1.marks.same ∙ c.requires.4)
+lengths c = (c.loop-j.invariant.word.same ∙ c.requires.3, c.loop-j.invariant.marks.same ∙ c.requires.4)
 
 pub overflow_add-end : goal.overflow_add-end
 overflow_add-end c = omega (arith, within (goal.at.overflow_add-end c).After-span_of (inside (goal.at.overflow_add-end c).In-loop-j))
@@ -104,7 +102,7 @@ more c inside_here lent_here =
     let m = c.first_of-start.result in
     let k = m + c.span_of.result - m in
     let e = sym c.first_of-start.ensures in
-    let D = l.invariant.1 in
+    let D = l.invariant in
     let G = c.mend_group-one.ensures in
     let ws = a.word.now in
     let ms = a.marks.now in
@@ -122,18 +120,14 @@ overflow_add-number c =
     let h = c.args.shape in
     omega (arith, (more (goal.at.overflow_add-number c).After-mend_group-one (inside (goal.at.overflow_add-number c).In-loop-j) (lent (goal.at.overflow_add-number c).After-span_of)).many, count_most (repairs h c.args.word.now c.args.marks.now) (c.loop-j.j + 1), inside (goal.at.overflow_add-number c).In-loop-j, groups_most h c.requires.2.plain.family.placed)
 
-pub overflow_add-j : goal.overflow_add-j
-overflow_add-j c =
-    omega (arith, inside (goal.at.overflow_add-j c).In-loop-j, groups_most c.args.shape c.requires.2.plain.family.placed)
-
 pub loop-j-preserved : goal.loop-j-preserved
-loop-j-preserved c = (omega arith, more (goal.at.loop-j-preserved c).After-mend_group-one (inside (goal.at.loop-j-preserved c).In-loop-j) (lent (goal.at.loop-j-preserved c).After-span_of))
+loop-j-preserved c = more (goal.at.loop-j-preserved c).After-mend_group-one (inside (goal.at.loop-j-preserved c).In-loop-j) (lent (goal.at.loop-j-preserved c).After-span_of)
 
 pub shape_of-word : goal.shape_of-word
-shape_of-word c = c.loop-j.invariant.1.word.same
+shape_of-word c = c.loop-j.invariant.word.same
 
 pub shape_of-marks : goal.shape_of-marks
-shape_of-marks c = c.loop-j.invariant.1.marks.same
+shape_of-marks c = c.loop-j.invariant.marks.same
 
 pub returns : goal.returns
 unfolding passed marks_after mended
@@ -142,7 +136,7 @@ returns c =
     let h = a.shape in
     let P = c.requires.2.plain.family.placed in
     let l = c.loop-j in
-    let D = l.invariant.1 in
+    let D = l.invariant in
     let j : l.j ≡ groups h = omega (arith, c.groups_of-all.ensures) in (
       upto_all h (passed_at h a.word.now a.marks.now) P l.j a.word.now l.word j c.requires.3 D.word,
       upto_all h (mark_at h a.word.now a.marks.now) P l.j a.marks.now l.marks j c.requires.4 D.marks,

@@ -1,6 +1,6 @@
 use mathlib.Core.Path.{◌≡◌}
 use mathlib.Core.List.{List}
-use Prim.Native.Nat.{ℕ, ◌-◌, ◌≤◌}
+use Prim.Native.Nat.{ℕ}
 use Rattle.algebra.specs.Sequence.{count}
 use Rattle.code.specs.declared.Shape.{Shape}
 use Rattle.code.specs.Pass.{repairs}
@@ -15,7 +15,4 @@ pub record Done (s : Shape) (ws ms : List ℕ) (j : ℕ) (ws' ms' : List ℕ) (n
   pub many : number ≡ count (repairs s ws ms) j
 
 abbrev pub invariant-loop-j : goal.invariant-loop-j
-invariant-loop-j l = (l.j ≤ l.all) × Done l.shape l.initial.word l.initial.marks l.j l.word l.marks l.number
-
-abbrev pub decreases-loop-j : goal.decreases-loop-j
-decreases-loop-j l = l.all - l.j
+invariant-loop-j l = Done l.shape l.initial.word l.initial.marks l.j l.word l.marks l.number
