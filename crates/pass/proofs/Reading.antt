@@ -2,6 +2,7 @@
 --   readable s ws ms p                 == slot p is not read, or its symbol is below q
 --   none_read, kept_read               a group that is not mended, and one that is
 --   reads_not, reads_all               a group with a symbol that is too large, and none
+--   group_reads j, reads_groups        the test of one group, and of all
 use mathlib.Core.Path.{◌≡◌, refl, sym, ap, subst, ◌∙◌}
 use mathlib.Core.Bool.{Bool, true, false, not, ◌&&◌, ◌||◌}
 use mathlib.Core.List.{List}
@@ -76,3 +77,23 @@ reads_all s M ws ms all =
     let j : ℕ = group s p in
     let t = every_at (λ i. readable s ws ms (slot_at s j i)) (members s j) (so (all j (group_below s P p l))) (member s p) (member_own s P p h) in
     subst (λ (o : ℕ). T (readable s ws ms o)) (slot_group_member s P p) t))
+
+module _ (s : Shape) (M : Mending s) (ws ms : List ℕ) where
+  abbrev pub group_reads : ℕ → Bool
+  group_reads j = group_reads_below s j ws ms
+
+  group_kept : T (reads_below s ws ms) → (j : ℕ) → j < groups s → (b : Bool) → group_reads j ≡ b → T (group_reads j)
+  group_kept t j h true e = so e
+  group_kept t j h false e = absurd (rw (reads_not s M ws ms j h e) at t)
+
+  both_ways : (a b : Bool) → (T a → T b) → (T b → T a) → a ≡ b
+  both_ways true true f g = refl
+  both_ways true false f g = absurd (f tt)
+  both_ways false true f g = absurd (g tt)
+  both_ways false false f g = refl
+
+  pub reads_groups : every group_reads (groups s) ≡ reads_below s ws ms
+  reads_groups =
+      both_ways (every group_reads (groups s)) (reads_below s ws ms)
+      (λ t. so (reads_all s M ws ms (λ j h. yes_true (group_reads j) (every_at group_reads (groups s) t j h))))
+      (λ t. every_intro group_reads (groups s) (λ j h. group_kept t j h (group_reads j) refl))

@@ -31,15 +31,7 @@ fn pass_below(shape: Shape, word: &[u8], marks: &[u8]) -> bool
     requires { Mending shape × (length word.now ≡ shape.n) × (length marks.now ≡ shape.n) }
     ensures { result ≡ reads_below shape word.now marks.now }
 {
-    let groups = layout::groups_of(shape);
-    let mut j: u32 = 0;
-    while j < groups {
-        if !group_below(shape, j, word, marks) {
-            return false;
-        }
-        j += 1;
-    }
-    true
+    (0..layout::groups_of(shape)).all(|group| group_below(shape, group, word, marks))
 }
 
 // The refusal of the local pass, or 0.
