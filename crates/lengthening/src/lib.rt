@@ -47,11 +47,10 @@ fn tail_of(
 {
     let field = shape.field;
     let mut coefs = [0u8; 16];
-    let mut to = message.len() - lead;
-    copying::copy(message, lead, to, &mut coefs, 0);
+    copying::copy(message, lead, message.len() - lead, &mut coefs, 0);
     for i in (0..layout::missing_of(shape)).rev() {
-        to += 1;
         let y = layout::point_of(shape, shape.n + i, powers);
+        let to = (shape.r - i) as usize;
         mul_root(field, &mut coefs, to, y, powers, logs);
     }
     coefs

@@ -21,12 +21,14 @@ copy-requires c =
 pub loop-i-init : goal.loop-i-init
 loop-i-init c =
     let a = c.args in
+    let s = a.shape in
     let bs = drop a.lead a.message.now in
     let n : length a.message.now - a.lead ≡ length bs = sym (length-drop a.lead a.message.now) in
-    rw n
-    (tailed_none a.shape bs c.missing_of-i.result _ c.missing_of-i.ensures
-    (yes_true (all_below (q a.shape.field) bs) (all_below_drop (q a.shape.field) a.lead a.message.now (so c.requires.5)))
-    (omega (arith, c.requires.3, c.requires.4, r_most a.shape c.requires.2))
+    let to : s.r - c.missing_of-i.result ≡ length bs = omega (arith, n, c.missing_of-i.ensures, c.requires.3, c.requires.4) in
+    subst (λ m. Tailed s bs c.missing_of-i.result m c.copy.new.target) (sym to)
+    (tailed_none s bs c.missing_of-i.result _ c.missing_of-i.ensures
+    (yes_true (all_below (q s.field) bs) (all_below_drop (q s.field) a.lead a.message.now (so c.requires.5)))
+    (omega (arith, n, c.requires.3, c.requires.4, r_most s c.requires.2))
     (laid_done n
     (laid_same (λ i h. sym (get_or-drop a.lead a.message.now (0 + i) 0 ∙ ap (λ n. at a.message.now (a.lead + n)) (zero-add i))) c.copy.ensures)))
 
@@ -41,26 +43,24 @@ point_of-y-requires c =
     (c.requires.0, c.requires.2, missing_inside c.args.shape c.requires.2 (l.i - 1) (omega (arith, c.missing_of-i.ensures)))
 
 pub mul_root-requires : goal.mul_root-requires
-mul_root-requires c =
-    let I = c.loop-i.invariant in
-    (c.requires.0, c.requires.1, I.room, omega (arith, c.requires.3, c.requires.4, r_most c.args.shape c.requires.2, I.number, length-drop c.args.lead c.args.message.now))
+mul_root-requires c = (c.requires.0, c.requires.1, c.loop-i.invariant.room, omega (arith, r_most c.args.shape c.requires.2))
 
 pub loop-i-preserved : goal.loop-i-preserved
 loop-i-preserved c =
-    let a = c.args in
-    let bs = drop a.lead a.message.now in
+    let s = c.args.shape in
+    let bs = drop c.args.lead c.args.message.now in
     let l = c.loop-i in
     let i = l.i - 1 in
-    let e : l.i ≡ suc i = omega arith in
-    let n : l.to + 1 ≡ suc l.to = omega arith in
     let m = c.mul_root in
+    let e : l.i ≡ suc i = omega arith in
+    let n : s.r - i ≡ suc (s.r - l.i) = omega (arith, l.invariant.most, c.requires.3, c.requires.4) in
     rw n
-    (tailed_more a.shape bs i l.to c.point_of-y.result l.coefs _
-    (subst (λ i. Tailed a.shape bs i l.to l.coefs) e l.invariant) c.point_of-y.ensures
-    (omega (arith, c.requires.3, c.requires.4, r_most a.shape c.requires.2, l.invariant.number, length-drop a.lead a.message.now)) (rw n at m.ensures))
+    (tailed_more s bs i (s.r - l.i) c.point_of-y.result l.coefs _
+    (subst (λ i. Tailed s bs i (s.r - l.i) l.coefs) e l.invariant) c.point_of-y.ensures
+    (omega (arith, r_most s c.requires.2)) (rw n at m.ensures))
 
 pub returns : goal.returns
 returns c =
     let l = c.loop-i in
-    tailed_all c.args.shape (drop c.args.lead c.args.message.now) l.i l.to l.coefs (omega arith)
+    tailed_all c.args.shape (drop c.args.lead c.args.message.now) l.i (c.args.shape.r - l.i) l.coefs (omega arith)
     (omega (arith, c.requires.3, c.requires.4, length-drop c.args.lead c.args.message.now)) l.invariant
