@@ -23,13 +23,9 @@ pub fn mother_of(shape: Shape) -> Shape
     let room = layout::room_of(shape);
     let most = shape.k + layout::missing_of(shape);
     Shape {
-        field: shape.field,
-        r: shape.r,
         n: room,
         k: most,
-        wiring: shape.wiring,
-        tolerance: shape.tolerance,
-        second: shape.second,
+        ..shape
     }
 }
 
