@@ -30,4 +30,4 @@ slice_bounds-settle_columns-end-2 c = sym (lent c.args.shape.k (fits c.args.shap
 pub settle_columns-requires : goal.settle_columns-requires
 settle_columns-requires c =
     let f = fits c.args.shape c.requires.0.shape in
-    (c.requires.0, omega arith, lent c.args.shape.n f.1, lent c.args.shape.k f.0, c.requires.1, λ d h. absurd (omega arith))
+    (c.requires.0, lent c.args.shape.n f.1, lent c.args.shape.k f.0, c.requires.1)
