@@ -65,6 +65,7 @@ fn encode_columns(
 }
 
 // Encodes column by column.
+#[tactic(auto, using(code::proofs::Bounds::n_most, strip_columns::proofs::Lengths::row_lent))]
 fn write_columns(shape: Shape, messages: &[u8], l: usize, codewords: &mut [u8])
     requires { Plain shape × (1 ≤ l) × (l ≤ 4096) × (length messages.now ≡ shape.k * l) × (all_below (q shape.field) messages.now ≡ true) × (length codewords.old ≡ shape.n * l) }
     ensures { codewords.new ≡ encoded_strips shape l messages.now }

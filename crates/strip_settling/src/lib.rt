@@ -58,6 +58,7 @@ fn settle_columns(
 }
 
 // Decodes strips that no question refuses; the messages' strips lie behind what decode uses of the room.
+#[tactic(auto, using(code::proofs::Bounds::n_most, strip_columns::proofs::Lengths::row_lent))]
 pub fn settle_strips(shape: Shape, words: &[u8], marks: &[u8], l: usize, room: &mut [u8]) -> u32
     requires { Task shape l words.now marks.now × (length room.old ≡ shape.n * (shape.k + 1 + l)) }
     ensures { Answer shape l words.now marks.now (drop (shape.n * (shape.k + 1)) room.new) result }
