@@ -1,7 +1,7 @@
 // Strips with losses decoded into lent room: first what decode uses of work, then the strips of the messages.
 #![tactic(auto)]
 
-ghost use Rattle.std.specs.Prelude.{◌≡◌, cond, List, ℕ, ◌+◌, ◌*◌, ◌≤◌, ◌<◌, eqb, length, drop};
+ghost use Rattle.std.specs.Prelude.{◌≡◌, ◌+◌, ◌*◌, ◌<◌, length, drop};
 ghost use Rattle.strip_words.specs.Answer.{Answer};
 ghost use Rattle.strip_settling.specs.Step.{Task, ColumnSettled};
 

@@ -1,7 +1,7 @@
 // The sum of weight times symbol over each column of strips of bytes, by Horner's rule over the bits of the weights, on tiles of columns.
 #![tactic(auto)]
 
-ghost use Rattle.std.specs.Prelude.{◌≡◌, ◌⊎◌, ℕ, ◌+◌, ◌*◌, ◌≤◌, ◌<◌, length};
+ghost use Rattle.std.specs.Prelude.{◌≡◌, ℕ, ◌+◌, ◌*◌, ◌≤◌, ◌<◌, length};
 ghost use Rattle.algebra.specs.Sequence.{at, tabulate};
 ghost use Rattle.field.specs.Field.{xor_from, doubled};
 ghost use Rattle.tiles.specs.Columns.{Combined};
