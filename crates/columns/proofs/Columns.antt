@@ -5,6 +5,7 @@
 --   sums_none     no strip yet: every sum is 0
 --   sums_more     one strip more
 --   sums_all      all strips: the sums of weight times symbol
+--   weighed_first    the sums by the first r weights alone
 use mathlib.Core.Path.{◌≡◌, sym, ap, ap₂, ◌∙◌}
 use mathlib.Core.Bool.{true}
 use mathlib.Core.List.{List}
@@ -13,7 +14,7 @@ use native.Mathlib.Omega.{arith}
 use lib.Arith.{digits_lt}
 use lib.Dec.{T}
 use lib.ListN.{length, take, replicate, length-replicate}
-use lib.Seq.{length-take-le, get_or-take}
+use lib.Seq.{take-length, length-take-le, get_or-take}
 use Rattle.algebra.specs.Sequence.{at, tabulate, column, all_below}
 use Rattle.algebra.proofs.Booleans.{yes_true}
 use Rattle.algebra.proofs.Below.{all_below_at, all_below_intro}
@@ -70,3 +71,6 @@ module _ (f : ℕ) (ws : List ℕ) (r l : ℕ) (xs : List ℕ) where
   sums_all h =
       tabulate_same 0 (sum_of f ws r l xs r) (λ i. dotted f (take r ws) (column r l i xs)) l
       (λ i k. dotted_stop f r (take r ws) (column r l i xs) (omega (arith, length-take-le r ws h)))
+
+pub weighed_first : (f : ℕ) (ws : List ℕ) (r l : ℕ) (xs : List ℕ) → r ≤ length ws → weighed f (take r ws) (length (take r ws)) l xs ≡ weighed f ws r l xs
+weighed_first f ws r l xs h = ap₂ (λ v n. tabulate (λ i. dotted f v (column n l i xs)) l) (take-length (take r ws)) (length-take-le r ws h)

@@ -21,25 +21,21 @@ fn add_strip(field: u32, w: u8, strips: &[u8], o: usize, output: &mut [u8])
     requires { o + length output.old ≤ length strips.now }
     ensures { output.new ≡ tabulate (λ i. plus field (at output.old i) (times field w (at strips.now (o + i)))) (length output.old) }
 {
-    let mut i: usize = 0;
-    while i < output.len() {
+    for i in 0..output.len() {
         let s = arithmetic::product(field, w, strips[o + i]);
         output[i] = arithmetic::add(field, output[i], s);
-        i += 1;
     }
 }
 
 // Writes to each place of output the sum of weight times symbol over its column of the strips, strip by strip.
-fn plain_columns(field: u32, weights: &[u8; 16], r: usize, strips: &[u8], output: &mut [u8])
-    requires { (r ≤ 16) × (r ≤ length weights.now) × (length output.old ≤ 4096) × (length strips.now ≡ r * length output.old) }
-    ensures { output.new ≡ weighed field weights.now r (length output.old) strips.now }
+fn plain_columns(field: u32, weights: &[u8], strips: &[u8], output: &mut [u8])
+    requires { (length weights.now ≤ 16) × (length output.old ≤ 4096) × (length strips.now ≡ length weights.now * length output.old) }
+    ensures { output.new ≡ weighed field weights.now (length weights.now) (length output.old) strips.now }
 {
     let l = output.len();
     copying::clear(output);
-    let mut j: usize = 0;
-    while j < r {
-        add_strip(field, weights[j], strips, j * l, output);
-        j += 1;
+    for (j, &w) in weights.iter().enumerate() {
+        add_strip(field, w, strips, j * l, output);
     }
 }
 
@@ -49,10 +45,10 @@ pub fn weigh_columns(field: u32, weights: &[u8; 16], r: usize, strips: &[u8], ou
     ensures { output.new ≡ weighed field weights.now r (length output.old) strips.now }
 {
     if field == 0 {
-        plain_columns(field, weights, r, strips, output);
+        plain_columns(field, &weights[..r], strips, output);
         return;
     }
-    kernel::combine(weights, r, strips, output);
+    kernel::combine(&weights[..r], strips, output);
 }
 
 // Rebuilds many columns: writes to each place of output the sum of weight times symbol over its column of the strips; one alone as repair does.

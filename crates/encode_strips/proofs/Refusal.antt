@@ -1,36 +1,20 @@
 -- The questions of encode of strips. Assumes nothing.
---   short_no, long_no, fit_rest    the tests of the length of a strip, one after another
 --   asked_in_turn                  the questions are asked one after another
 --   Passed n s ms b                no refusal n before, strips of one length, and symbols below q
 --   strips_passed                  strips that are not refused have these
-use mathlib.Core.Path.{◌≡◌, refl, sym, ap, ◌∙◌}
-use mathlib.Core.Bool.{false, ◌&&◌}
+use mathlib.Core.Path.{◌≡◌, ap, ◌∙◌}
+use mathlib.Core.Bool.{◌&&◌}
 use mathlib.Core.List.{List}
-use Prim.Native.Nat.{ℕ, ◌*◌, ◌/◌, ◌≤◌, ◌<◌}
-use native.Mathlib.Omega.{arith}
-use lib.Dec.{T, eqb, leb, eqb→eq, leb→le, le→leb}
+use Prim.Native.Nat.{ℕ, ◌*◌, ◌/◌, ◌≤◌}
+use lib.Dec.{T, eqb, leb, eqb→eq, leb→le}
 use lib.ListN.{length}
 use Rattle.algebra.specs.Sequence.{all_below}
-use Rattle.algebra.proofs.Booleans.{yes_true, no_false, and_left, and_right, and_no_left, and_no_right}
+use Rattle.algebra.proofs.Booleans.{and_left, and_right}
 use Rattle.field.specs.Field.{q}
 use Rattle.code.specs.Question.{ask, or_ask}
 use Rattle.code.specs.declared.Shape.{Shape}
 use Rattle.code.proofs.Questions.{ask_then, ask_and, asked, or_ask_passed}
 use Rattle.encode_strips.specs.Strips.{strips_are, encode_strips_refusal}
-
-pub short_no : (l n b : ℕ) → l < 1 → false ≡ strips_are l n b
-unfolding strips_are
-short_no l n b h =
-    sym (and_no_left (leb 1 l && leb l 4096) (eqb b (n * l)) (and_no_left (leb 1 l) (leb l 4096) (no_false (leb 1 l) (λ t. absurd (omega (arith, leb→le 1 l t))))))
-
-pub long_no : (l n b : ℕ) → 4096 < l → false ≡ strips_are l n b
-unfolding strips_are
-long_no l n b h =
-    sym (and_no_left (leb 1 l && leb l 4096) (eqb b (n * l)) (and_no_right (leb 1 l) (leb l 4096) (no_false (leb l 4096) (λ t. absurd (omega (arith, leb→le l 4096 t))))))
-
-pub fit_rest : (l n b : ℕ) → 1 ≤ l → l ≤ 4096 → eqb b (n * l) ≡ strips_are l n b
-unfolding strips_are
-fit_rest l n b h k = rw (yes_true (leb 1 l) (le→leb 1 l h)) (rw (yes_true (leb l 4096) (le→leb l 4096 k)) refl)
 
 pub asked_in_turn : (n : ℕ) (s : Shape) (ms : List ℕ) (b x : ℕ)
     → x ≡ or_ask (or_ask n (ask (strips_are (b / s.n) s.n b) 5 0)) (ask (eqb (length ms) (s.k * (b / s.n))) 5 0)

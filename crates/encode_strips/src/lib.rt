@@ -13,18 +13,12 @@ ghost use Rattle.encode_strips.specs.Strips.{strips_are, encode_strips_refusal, 
 use code::{Code, Shape};
 
 // Whether so many symbols are n strips of l, with l from 1 to 4,096.
+#[tactic(auto, unfolding(crate::specs::Strips::strips_are, strip_columns::specs::Strips::strips_are))]
 pub fn strips_are(l: usize, n: usize, length: usize) -> bool
     requires { n * l ≤ length }
     ensures { result ≡ strips_are l n length }
 {
-    if l < 1 {
-        return false;
-    }
-    let long = l > 4096;
-    if long {
-        return false;
-    }
-    length == n * l
+    strip_columns::strips_are(l, n, length)
 }
 
 // Questions 5 and 6 after the refusal of those before; length is that of the codewords' buffer.
@@ -63,16 +57,15 @@ fn encode_columns(
 {
     let powers = tables::power_table();
     let logs = tables::log_table();
-    let mut c: usize = 0;
-    while c < l {
+    for c in 0..l {
         strip_columns::take_column(messages, l, c, message);
         encode::write_message(shape, message, codeword, &powers, &logs);
         strip_columns::put_column(codeword, codewords, l, c);
-        c += 1;
     }
 }
 
 // Encodes column by column.
+#[tactic(auto, using(code::proofs::Bounds::n_most, strip_columns::proofs::Lengths::row_lent))]
 fn write_columns(shape: Shape, messages: &[u8], l: usize, codewords: &mut [u8])
     requires { Plain shape × (1 ≤ l) × (l ≤ 4096) × (length messages.now ≡ shape.k * l) × (all_below (q shape.field) messages.now ≡ true) × (length codewords.old ≡ shape.n * l) }
     ensures { codewords.new ≡ encoded_strips shape l messages.now }
@@ -96,16 +89,10 @@ fn on_tiles(shape: Shape) -> bool
     requires { Plain shape }
     ensures { result ≡ true → ByteCode shape }
 {
-    if shape.field == 0 {
-        return false;
-    }
-    if shape.tolerance != 1 {
-        return false;
-    }
-    if layout::missing_of(shape) != 0 {
-        return false;
-    }
-    group_plans::blocks_of(shape) <= 16
+    shape.field != 0
+        && shape.tolerance == 1
+        && layout::missing_of(shape) == 0
+        && group_plans::blocks_of(shape) <= 16
 }
 
 // Encodes strips that no question refuses: on tiles where the code is for them and the strips are long enough that it pays.
@@ -113,15 +100,11 @@ fn write_strips(shape: Shape, messages: &[u8], l: usize, codewords: &mut [u8])
     requires { Plain shape × (1 ≤ l) × (l ≤ 4096) × (length messages.now ≡ shape.k * l) × (all_below (q shape.field) messages.now ≡ true) × (length codewords.old ≡ shape.n * l) }
     ensures { codewords.new ≡ encoded_strips shape l messages.now }
 {
-    if l < 16 {
-        write_columns(shape, messages, l, codewords);
+    if l >= 16 && on_tiles(shape) {
+        encode_tiles::write_tiles(shape, messages, l, codewords);
         return;
     }
-    if !on_tiles(shape) {
-        write_columns(shape, messages, l, codewords);
-        return;
-    }
-    encode_tiles::write_tiles(shape, messages, l, codewords);
+    write_columns(shape, messages, l, codewords);
 }
 
 // Encodes strips for any plain family after the refusal of the questions on its numbers.

@@ -26,11 +26,9 @@ fn write_chunks(
     requires { ByteCode shape × (1 ≤ l) × (l ≤ 4096) × (length messages.now ≡ shape.k * l) × (all_below (q shape.field) messages.now ≡ true) × (length folds.now ≡ 8192) × GroupsPlanned shape folds.now × (length values.now ≡ 8192) × SlotsPlanned shape values.now × (length tiles.old ≡ 4096) × (length table.old ≡ 16384) × (length coefs.old ≡ 65536) × (length tile.old ≡ 256) × (length codewords.old ≡ shape.n * l) }
     ensures { codewords.new ≡ encoded_strips shape l messages.now }
 {
-    let mut c: usize = 0;
-    while c < l {
+    for c in (0..l).step_by(256) {
         group_folding::fold(shape, messages, l, c, folds, tiles, table, coefs);
         group_values::write_groups(shape, values, coefs, table, tile, l, c, codewords);
-        c += 256;
     }
 }
 

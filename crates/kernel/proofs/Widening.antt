@@ -1,11 +1,9 @@
 -- Short strips laid out wider, and the sums over them. Assumes nothing.
 --   Widened xs l j a z             == the strips below j of l symbols lie at every 64th place of z
---   widened_none, widened_more     no strip yet; one more
 --   combined_widened               the sums over the strips laid out wider, copied
-use mathlib.Core.Path.{◌≡◌, refl, sym, ap, ◌∙◌}
+use mathlib.Core.Path.{◌≡◌, sym, ap, ◌∙◌}
 use mathlib.Core.List.{List}
 use Prim.Native.Nat.{ℕ, ◌+◌, ◌*◌, ◌≤◌, ◌<◌}
-use native.Mathlib.Decide.{ℕ_discrete}
 use native.Mathlib.Nat.{zero-add}
 use native.Mathlib.Omega.{arith}
 use lib.ListN.{length, take}
@@ -20,16 +18,6 @@ use Rattle.tiles.specs.Columns.{Combined}
 pub record Widened (xs : List ℕ) (l j : ℕ) (a z : List ℕ) : Type 0 where
   pub size : length z ≡ length a
   pub done : (k i : ℕ) → k < j → i < l → at z (k * 64 + i) ≡ at xs (k * l + i)
-
-pub widened_none : (xs : List ℕ) (l : ℕ) (a : List ℕ) → Widened xs l 0 a a
-widened_none xs l a = record { size = refl; done = λ k i h g. absurd (omega arith) }
-
-pub widened_more : (xs : List ℕ) (l j : ℕ) (a y z : List ℕ) → l ≤ 64 → Widened xs l j a y → Laid (λ i. at xs (j * l + i)) (j * 64) l y z → Widened xs l (j + 1) a z
-widened_more xs l j a y z b S C = record { size = C.written.size ∙ S.size; done = λ k i h g. go k i h g (ℕ_discrete k j) }
-  where
-    go : (k i : ℕ) → k < j + 1 → i < l → Dec (k ≡ j) → at z (k * 64 + i) ≡ at xs (k * l + i)
-    go k i h g (yes p) = rw p (laid_at C i g)
-    go k i h g (no n) = let s : k < j = omega arith in C.written.before (k * 64 + i) (omega arith) ∙ S.done k i s g
 
 column_widened : (r l w i : ℕ) (xs ys : List ℕ) → ((j : ℕ) → j < r → at ys (j * w + i) ≡ at xs (j * l + i)) → column r w i ys ≡ column r l i xs
 unfolding column

@@ -1,6 +1,6 @@
 -- Strips of codewords, from the first column on. Assumes nothing.
 --   Done s l ms c z       == the columns below c of z are encode of the columns of ms
---   done_none, done_all   no column yet; every column
+--   done_all              every column
 --   apart                 places in different columns differ
 use mathlib.Core.Path.{◌≡◌, sym, ap, ◌∙◌}
 use mathlib.Core.Logic.{◌≢◌}
@@ -20,9 +20,6 @@ use Rattle.strip_columns.specs.Strips.{encoded_strips}
 pub record Done (s : Shape) (l : ℕ) (ms : List ℕ) (c : ℕ) (z : List ℕ) : Type 0 where
   pub size : length z ≡ s.n * l
   pub own : (p d : ℕ) → p < s.n → d < c → d < l → at z (p * l + d) ≡ at (encoded s (column s.k l d ms)) p
-
-pub done_none : (s : Shape) (l : ℕ) (ms z : List ℕ) → length z ≡ s.n * l → Done s l ms 0 z
-done_none s l ms z e = record { size = e; own = λ p d b h g. absurd (omega arith) }
 
 -- places in different columns differ
 pub apart : (l p d m c : ℕ) → d < l → c < l → d ≢ c → p * l + d ≢ m * l + c

@@ -1,27 +1,15 @@
 -- The length of strips. Assumes nothing.
---   short_no, long_no, fit_rest    its tests, one after another
---   StripsAre l n b, are_strips   what holds where they pass
-use mathlib.Core.Path.{◌≡◌, refl, sym}
-use mathlib.Core.Bool.{false, ◌&&◌}
-use Prim.Native.Nat.{ℕ, ◌*◌, ◌≤◌, ◌<◌}
+--   StripsAre l n b, are_strips    what holds where they pass
+--   row_lent                       a column's room, lent from a row of 255
+use mathlib.Core.Path.{◌≡◌}
+use mathlib.Core.Bool.{◌&&◌}
+use Prim.Native.Nat.{ℕ, ◌*◌, ◌≤◌}
 use native.Mathlib.Omega.{arith}
-use lib.Dec.{T, eqb, leb, eqb→eq, leb→le, le→leb}
-use Rattle.algebra.proofs.Booleans.{yes_true, no_false, and_left, and_right, and_no_left, and_no_right}
+use lib.Dec.{T, eqb, leb, eqb→eq, leb→le}
+use lib.ListN.{length, take, replicate, length-replicate}
+use lib.Seq.{length-take-le}
+use Rattle.algebra.proofs.Booleans.{and_left, and_right}
 use Rattle.strip_columns.specs.Strips.{strips_are}
-
-pub short_no : (l n b : ℕ) → l < 1 → false ≡ strips_are l n b
-unfolding strips_are
-short_no l n b h =
-    sym (and_no_left (leb 1 l && leb l 4096) (eqb b (n * l)) (and_no_left (leb 1 l) (leb l 4096) (no_false (leb 1 l) (λ t. absurd (omega (arith, leb→le 1 l t))))))
-
-pub long_no : (l n b : ℕ) → 4096 < l → false ≡ strips_are l n b
-unfolding strips_are
-long_no l n b h =
-    sym (and_no_left (leb 1 l && leb l 4096) (eqb b (n * l)) (and_no_right (leb 1 l) (leb l 4096) (no_false (leb l 4096) (λ t. absurd (omega (arith, leb→le l 4096 t))))))
-
-pub fit_rest : (l n b : ℕ) → 1 ≤ l → l ≤ 4096 → eqb b (n * l) ≡ strips_are l n b
-unfolding strips_are
-fit_rest l n b h k = rw (yes_true (leb 1 l) (le→leb 1 l h)) (rw (yes_true (leb l 4096) (le→leb l 4096 k)) refl)
 
 pub record StripsAre (l n b : ℕ) : Type 0 where
   pub least : 1 ≤ l
@@ -37,3 +25,6 @@ are_strips l n b t =
       most = leb→le l 4096 (and_right (leb 1 l) (leb l 4096) r);
       room = eqb→eq b (n * l) (and_right (leb 1 l && leb l 4096) (eqb b (n * l)) t);
     }
+
+pub row_lent : (n : ℕ) → n ≤ 255 → length (take {A = ℕ} n (replicate 255 0)) ≡ n
+row_lent n h = length-take-le {A = ℕ} n (replicate 255 0) (omega (arith, length-replicate {A = ℕ} 255 0))

@@ -1,8 +1,7 @@
 -- A column of strips written symbol by symbol. Assumes nothing.
 --   PutFront xs l c n a z   == a has become z: the first n symbols of xs stand in column c, all else unchanged
---   front_none, front_more, front_all
---   apart                    places in one column of different strips differ
-use mathlib.Core.Path.{◌≡◌, refl, ◌∙◌}
+--   front_more               one symbol more
+use mathlib.Core.Path.{◌≡◌, ◌∙◌}
 use mathlib.Core.Logic.{◌≢◌}
 use mathlib.Core.List.{List}
 use Prim.Native.Nat.{ℕ, ◌+◌, ◌*◌, ◌<◌}
@@ -12,15 +11,11 @@ use lib.ListN.{length, set, length-set}
 use lib.Seq.{get_or-set_same, get_or-set_other}
 use Rattle.algebra.specs.Sequence.{at}
 use Rattle.algebra.proofs.Strides.{row_step}
-use Rattle.strip_columns.specs.Column.{ColumnPut}
 
 pub record PutFront (xs : List ℕ) (l c n : ℕ) (a z : List ℕ) : Type 0 where
   pub size : length z ≡ length a
   pub own : (m : ℕ) → m < n → at z (m * l + c) ≡ at xs m
   pub other : (x : ℕ) → ((m : ℕ) → m < n → x ≢ m * l + c) → at z x ≡ at a x
-
-pub front_none : (xs : List ℕ) (l c : ℕ) (a : List ℕ) → PutFront xs l c 0 a a
-front_none xs l c a = record { size = refl; own = λ m h. absurd (omega arith); other = λ x h. refl }
 
 pub front_more : (xs : List ℕ) (l c n y : ℕ) (a z : List ℕ) → c < l → n * l + c < length z → y ≡ at xs n → PutFront xs l c n a z
     → PutFront xs l c (n + 1) a (set z (n * l + c) y)
@@ -34,7 +29,3 @@ front_more xs l c n y a z b h e F =
     go : (m : ℕ) → m < n + 1 → Dec (m ≡ n) → at (set z (n * l + c) y) (m * l + c) ≡ at xs m
     go m k (yes q) = rw q (get_or-set_same z (n * l + c) y 0 h ∙ e)
     go m k (no q) = get_or-set_other z (n * l + c) (m * l + c) y 0 (λ s. absurd (omega (arith, row_step m n l (omega arith)))) ∙ F.own m (omega arith)
-
-pub front_all : (xs : List ℕ) (l c n : ℕ) (a z : List ℕ) → n ≡ length xs → PutFront xs l c n a z → ColumnPut xs l c a z
-front_all xs l c n a z e F =
-    record { size = F.size; own = λ m k. F.own m (omega arith); other = λ x f. F.other x (λ m k. f m (omega arith)) }

@@ -7,18 +7,12 @@ ghost use Rattle.strip_columns.specs.Strips.{strips_are};
 ghost use Rattle.strip_columns.specs.Column.{ColumnPut};
 
 // Whether so many symbols are n strips of l, with l from 1 to 4,096.
+#[tactic(auto, unfolding(crate::specs::Strips::strips_are))]
 pub fn strips_are(l: usize, n: usize, length: usize) -> bool
     requires { n * l ≤ length }
     ensures { result ≡ strips_are l n length }
 {
-    if l < 1 {
-        return false;
-    }
-    let long = l > 4096;
-    if long {
-        return false;
-    }
-    length == n * l
+    1 <= l && l <= 4096 && length == n * l
 }
 
 // Reads column c of strips of l symbols, as many as the buffer has places.
@@ -26,10 +20,8 @@ pub fn take_column(strips: &[u8], l: usize, c: usize, buffer: &mut [u8])
     requires { (c < l) × (length buffer.old * l ≤ length strips.now) }
     ensures { buffer.new ≡ column (length buffer.old) l c strips.now }
 {
-    let mut m: usize = 0;
-    while m < buffer.len() {
-        buffer[m] = strips[m * l + c];
-        m += 1;
+    for (m, x) in buffer.iter_mut().enumerate() {
+        *x = strips[m * l + c];
     }
 }
 
@@ -38,9 +30,7 @@ pub fn put_column(buffer: &[u8], strips: &mut [u8], l: usize, c: usize)
     requires { (c < l) × (length buffer.now * l ≤ length strips.old) }
     ensures { ColumnPut buffer.now l c strips.old strips.new }
 {
-    let mut m: usize = 0;
-    while m < buffer.len() {
-        strips[m * l + c] = buffer[m];
-        m += 1;
+    for (m, &x) in buffer.iter().enumerate() {
+        strips[m * l + c] = x;
     }
 }

@@ -1,16 +1,15 @@
 -- Columns decoded one after another. Assumes nothing.
 --   put_own, put_other            a column that was put, and the others
 --   Settled s l ws ms c y zs      == the columns below c: y is 0 where each has its message in zs, 10 where some has more than one; none has none
---   settled_start, settled_more, settled_all, settled_none
+--   settled_one, settled_two      one column more, with its message, or with more than one
+--   settled_all, settled_none     all columns, or up to one with none
 use mathlib.Core.Path.{◌≡◌, refl, sym, subst}
 use mathlib.Core.Logic.{◌≢◌}
-use mathlib.Core.Bool.{true, cond}
+use mathlib.Core.Bool.{true}
 use mathlib.Core.List.{List}
 use Prim.Native.Nat.{ℕ, ◌+◌, ◌*◌, ◌<◌}
 use native.Mathlib.Decide.{ℕ_discrete}
 use native.Mathlib.Omega.{arith}
-use borrow.Author.Tests.{eq-eqb, ne_eqb}
-use lib.Dec.{eqb}
 use lib.ListN.{length}
 use Rattle.algebra.specs.Sequence.{at, column}
 use Rattle.algebra.proofs.Tabulate.{tabulate_is, tabulate_same}
@@ -73,15 +72,6 @@ pub record Settled (s : Shape) (l : ℕ) (ws ms : List ℕ) (c y : ℕ) (zs : Li
   pub twice : y ≡ 10 → Later s l ws ms c zs
 
 module _ (s : Shape) (l : ℕ) (ws ms : List ℕ) where
-  pub settled_start : (c : ℕ) (zs : List ℕ) → ((d : ℕ) → d < c → ColumnAnswer s l ws ms zs d 0) → Settled s l ws ms c 0 zs
-  settled_start c zs h =
-      record {
-        numbers = λ n. absurd (n refl);
-        fit = λ d b v. verdict_not_none s (column s.n l d ws) ms (column s.k l d zs) (column s.k l d zs) (column s.k l d zs) (column s.k l d zs) 0 (λ e. absurd (omega arith)) (h d b) v;
-        ones = λ e d b. h d b;
-        twice = λ e. absurd (omega arith);
-      }
-
   pub settled_none : (c : ℕ) (a z : List ℕ) → c < l → ColumnSettled s l ws ms c 9 a z → Answer s l ws ms z 9
   settled_none c a z h C =
       answer.none c h (verdict_bare s (column s.n l c ws) ms C.before C.after (column s.k l c z) 9 (λ e. absurd (omega arith)) C.verdict)
@@ -145,15 +135,11 @@ module _ (s : Shape) (l : ℕ) (ws ms : List ℕ) where
               };
         }
 
-    pub settled_more : (y x : ℕ) → x ≢ 9 → ColumnSettled s l ws ms c x a z → Settled s l ws ms c y a → Settled s l ws ms (c + 1) (cond (eqb x 0) y x) z
-    settled_more y x n C S = go (ℕ_discrete x 0)
-      where
-        go : Dec (x ≡ 0) → Settled s l ws ms (c + 1) (cond (eqb x 0) y x) z
-        go (yes q) =
-            subst (λ b. Settled s l ws ms (c + 1) (cond b y x) z) (sym (eq-eqb x 0 q)) (more_one y (subst (λ m. ColumnSettled s l ws ms c m a z) q C) S)
-        go (no q) =
-            subst (λ b. Settled s l ws ms (c + 1) (cond b y x) z) (sym (ne_eqb x 0 q))
-            (more_two y x q (is_verdict s (column s.n l c ws) ms C.before C.after x C.verdict q n) C S)
+    pub settled_one : (y x : ℕ) → x ≡ 0 → ColumnSettled s l ws ms c x a z → Settled s l ws ms c y a → Settled s l ws ms (c + 1) y z
+    settled_one y x q C S = more_one y (subst (λ m. ColumnSettled s l ws ms c m a z) q C) S
+
+    pub settled_two : (y x : ℕ) → x ≢ 9 → x ≢ 0 → ColumnSettled s l ws ms c x a z → Settled s l ws ms c y a → Settled s l ws ms (c + 1) x z
+    settled_two y x n q C S = more_two y x q (is_verdict s (column s.n l c ws) ms C.before C.after x C.verdict q n) C S
 
   pub settled_all : (c y : ℕ) (zs : List ℕ) → c ≡ l → Settled s l ws ms c y zs → Answer s l ws ms zs y
   settled_all c y zs e S = go (ℕ_discrete y 0)

@@ -1,3 +1,4 @@
+pub mod Chains
 pub mod Refusal
 pub mod Columns
 pub mod Sizes

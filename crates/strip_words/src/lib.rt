@@ -8,16 +8,12 @@ ghost use Rattle.strip_words.specs.Strips.{strip_below, kept_strips_below, kept_
 use code::Shape;
 
 // Whether strip p is lost, or every symbol of it is below most.
+#[tactic(auto, unfolding(crate::specs::Strips::strip_below, crate::specs::Strips::strip, code::specs::Decoding::lost))]
 fn strip_below(words: &[u8], l: usize, marks: &[u8], p: usize, most: u32) -> bool
     requires { (p * l + l ≤ length words.now) × (p < length marks.now) }
     ensures { result ≡ strip_below most l words.now marks.now p }
 {
-    if marks[p] == 1 {
-        return true;
-    }
-    let start = p * l;
-    let end = p * l + l;
-    questions::strips_below(&words[start..end], most)
+    marks[p] == 1 || questions::strips_below(&words[p * l..p * l + l], most)
 }
 
 // Whether every symbol of a kept strip is below q.
@@ -27,14 +23,7 @@ fn kept_strips_below(shape: Shape, words: &[u8], l: usize, marks: &[u8]) -> bool
 {
     let n = shape.n as usize;
     let most = tables::order(shape.field);
-    let mut p: usize = 0;
-    while p < n {
-        if !strip_below(words, l, marks, p, most) {
-            return false;
-        }
-        p += 1;
-    }
-    true
+    (0..n).all(|p| strip_below(words, l, marks, p, most))
 }
 
 // Questions 5, 8 and 6 after the refusal of those before; fits says whether the other buffers have their lengths, work is that of the work buffer.
@@ -70,14 +59,12 @@ pub fn strips_refusal(
 }
 
 // The symbol of strip m in column c, 0 where the strip is lost: it is not read then.
+#[tactic(auto, unfolding(crate::specs::Strips::kept_symbol, code::specs::Decoding::lost))]
 fn kept_symbol(words: &[u8], marks: &[u8], l: usize, c: usize, m: usize) -> u8
     requires { (m < length marks.now) × (m * l + c < length words.now) }
     ensures { result ≡ kept_symbol l c words.now marks.now m }
 {
-    if marks[m] == 1 {
-        return 0;
-    }
-    words[m * l + c]
+    if marks[m] == 1 { 0 } else { words[m * l + c] }
 }
 
 // Reads column c of the kept strips, 0 for a lost one.
@@ -85,9 +72,7 @@ pub fn take_kept(words: &[u8], marks: &[u8], l: usize, c: usize, buffer: &mut [u
     requires { (c < l) × (length buffer.old * l ≤ length words.now) × (length marks.now ≡ length buffer.old) }
     ensures { buffer.new ≡ kept_column (length buffer.old) l c words.now marks.now }
 {
-    let mut m: usize = 0;
-    while m < buffer.len() {
-        buffer[m] = kept_symbol(words, marks, l, c, m);
-        m += 1;
+    for (m, x) in buffer.iter_mut().enumerate() {
+        *x = kept_symbol(words, marks, l, c, m);
     }
 }

@@ -1,16 +1,15 @@
 -- Rows of a plan: one strip more. Assumes nothing.
---   Extending, extending_none, extending_more    the rows below m are longer by a strip, the others as they were
+--   Extending                     the rows below m are longer by a strip, the others as they were
 --   planned_none, planned_more    no strip yet; one strip more
 --   reach_of                      a plan's offsets have room behind them
 --   reach_less                    and so for less room
 use mathlib.Core.Path.{◌≡◌, refl, sym, ap, ap₂, ◌∙◌}
 use mathlib.Core.List.{List}
 use Prim.Native.Nat.{ℕ, zero, suc, ◌+◌, ◌*◌, ◌-◌, ◌/◌, ◌^◌, ◌≤◌, ◌<◌}
-use native.Mathlib.Nat.{suc-mul, mod-lt, le_refl}
+use native.Mathlib.Nat.{suc-mul, mod-lt}
 use native.Mathlib.Decide.{ℕ_discrete}
 use native.Mathlib.Omega.{arith}
-use lib.ListN.{length, set, length-set}
-use lib.Seq.{get_or-set_same, get_or-set_other}
+use lib.ListN.{length}
 use Rattle.algebra.specs.Sequence.{at}
 use Rattle.field.specs.Field.{pick}
 use Rattle.field.proofs.Byte.{◌⊕◌, ⊕_zero}
@@ -23,48 +22,6 @@ pub record Extending (w o : ℕ) (os os' ns ns' : List ℕ) (m : ℕ) : Type 0 w
   pub done : (i : ℕ) → i < m → Longer w o os os' ns ns' i
   pub counts : (i : ℕ) → m ≤ i → at ns' i ≡ at ns i
   pub places : (i k : ℕ) → m ≤ i → at os' (i * 16 + k) ≡ at os (i * 16 + k)
-
-module _ (w o : ℕ) (os ns : List ℕ) (fits : (i : ℕ) → i < 8 → at ns i < 16) where
-  pub extending_none : Extending w o os os ns ns 0
-  extending_none = record { offsets_size = refl; counts_size = refl; done = λ i h. absurd (omega arith); counts = λ i h. refl; places = λ i k h. refl }
-
-  pub extending_more : (os' ns' : List ℕ) (m : ℕ) → m < 8 → m * 16 + at ns' m < length os' → m < length ns' → Extending w o os os' ns ns' m
-      → Extending w o os (set os' (m * 16 + at ns' m) o) ns (set ns' m (at ns' m + bit m w)) (m + 1)
-  extending_more os' ns' m h p l P =
-      record {
-        offsets_size = length-set os' place o ∙ P.offsets_size;
-        counts_size = length-set ns' m n' ∙ P.counts_size;
-        done = λ i b. go i b (ℕ_discrete i m);
-        counts = λ i b. get_or-set_other ns' m i n' 0 (λ e. omega arith) ∙ P.counts i (omega arith);
-        places = λ i k b. get_or-set_other os' place (i * 16 + k) o 0 (λ e. omega (arith, same, fits m h)) ∙ P.places i k (omega arith);
-      }
-    where
-      place : ℕ
-      place = m * 16 + at ns' m
-
-      n' : ℕ
-      n' = at ns' m + bit m w
-
-      same : at ns' m ≡ at ns m
-      same = P.counts m (le_refl m)
-
-      go : (i : ℕ) → i < m + 1 → Dec (i ≡ m) → Longer w o os (set os' place o) ns (set ns' m n') i
-      go i b (yes e) =
-          rw e
-          (record {
-            number = get_or-set_same ns' m n' 0 l ∙ ap (λ n. n + bit m w) same;
-            last = ap (λ n. at (set os' place o) (m * 16 + n)) (sym same) ∙ get_or-set_same os' place o 0 p;
-            kept = λ k g. get_or-set_other os' place (m * 16 + k) o 0 (λ e. omega (arith, same)) ∙ P.places m k (le_refl m);
-          })
-      go i b (no e) =
-          let b' : i < m = omega arith in
-          let L = P.done i b' in
-          let f = fits i (omega arith) in
-          record {
-            number = get_or-set_other ns' m i n' 0 e ∙ L.number;
-            last = get_or-set_other os' place (i * 16 + at ns i) o 0 (λ e. omega arith) ∙ L.last;
-            kept = λ k g. get_or-set_other os' place (i * 16 + k) o 0 (λ e. omega arith) ∙ L.kept k g;
-          }
 
 two : 0 < 2
 two = omega arith

@@ -2,7 +2,7 @@
 --   row_added, row_added_none, row_added_more, row_added_first    the first strips of a row added to a tile
 --   Held n xs os ns c m t          == the tile t of n columns from c on holds their values after m rows
 --   held_first, held_next          after one row, and after one more
---   held_size, held_doubled, held_reach    its length, and that the strips reach as far
+--   held_size, held_doubled        its length
 --   held_tiled                     after all, copied
 use mathlib.Core.Path.{◌≡◌, refl, sym, ap, ap₂, ◌∙◌}
 use mathlib.Core.List.{List}
@@ -17,9 +17,8 @@ use Rattle.algebra.proofs.Tabulate.{tabulate_is, tabulate_same, length_table, at
 use Rattle.algebra.proofs.Writing.{laid_at, laid_same}
 use Rattle.field.specs.Field.{xor_from, doubled}
 use Rattle.field.proofs.Byte.{◌⊕◌, zero_⊕}
-use Rattle.tiles.specs.Step.{sum, row_symbol, horner, Reach, Tiled}
+use Rattle.tiles.specs.Step.{sum, row_symbol, horner, Tiled}
 use Rattle.tiles.proofs.Sum.{sum_none, sum_more}
-use Rattle.tiles.proofs.Planning.{reach_less}
 use Rattle.tiles.proofs.Products.{horner_none, horner_more}
 
 -- a tile of n columns from c on with the first strips of row m row_added, to the values b
@@ -59,7 +58,6 @@ module _ (xs os ns : List ℕ) (c n : ℕ) where
 
 -- a tile of n columns from c on after some rows: each of its entries is its column's value
 pub record Held (n : ℕ) (xs os ns : List ℕ) (c m : ℕ) (t : List ℕ) : Type 0 where
-  pub some : 1 ≤ m
   pub most : m ≤ 8
   pub values : t ≡ tabulate (λ i. horner xs os ns (c + i) m) n
 
@@ -68,7 +66,6 @@ module _ {n : ℕ} {xs os ns : List ℕ} {c : ℕ} where
   held_first q =
       let d : doubled 0 ≡ 0 = unfold doubled in refl in
       record {
-        some = omega arith;
         most = omega arith;
         values =
             q ∙ tabulate_same 0 (λ i. sum 0 (row_symbol xs os 0 (c + i)) (at ns 0)) (λ i. horner xs os ns (c + i) 1) n
@@ -86,18 +83,12 @@ module _ {n : ℕ} {xs os ns : List ℕ} {c : ℕ} where
       → Held n xs os ns c (m + 1) z
   held_next {m} {x} {y} {z} b H q e =
       record {
-        some = omega arith;
         most = omega arith;
         values = next xs os ns c n m y z (held_doubled H q)
             (λ i h. at_table (λ i. doubled (at x i)) (length x) y q i (omega (arith, held_size H)) ∙ ap doubled (at_table (λ i. horner xs os ns (c + i) m) n x H.values i h))
             (e (at y) (row_added_none xs os m c (at y) (length y) y refl (λ i h. refl)))
             ∙ ap (λ k. tabulate (λ i. horner xs os ns (c + i) k) n) (sym (add-one m));
       }
-
-  -- the strips reach as far as the doubled tile
-  pub held_reach : {m l total : ℕ} {x y : List ℕ} → c + n ≤ l → Held n xs os ns c m x → y ≡ tabulate (λ i. doubled (at x i)) (length x)
-      → Reach l total os ns → Reach (c + length y) total os ns
-  held_reach h H q R = reach_less (omega (arith, held_doubled H q)) R
 
   -- all rows done and copied
   pub held_tiled : {m : ℕ} {t a z : List ℕ} → 8 ≤ m → Held n xs os ns c m t → Laid (λ i. at t (0 + i)) c n a z → Tiled n xs os ns c a z

@@ -1,6 +1,5 @@
 use mathlib.Core.List.{List}
-use Prim.Native.Nat.{ℕ, ◌+◌, ◌-◌, ◌≤◌}
-use lib.ListN.{length}
+use Prim.Native.Nat.{ℕ, ◌+◌}
 use Rattle.algebra.specs.Sequence.{at}
 use Rattle.algebra.proofs.Filling.{Filled}
 use Rattle.field.specs.Field.{plus, times}
@@ -10,7 +9,4 @@ abbrev pub entry : (field w : ℕ) → (strips : List ℕ) → (o : ℕ) → (ou
 entry f w xs o ys i = plus f (at ys i) (times f w (at xs (o + i)))
 
 abbrev pub invariant-loop-i : goal.invariant-loop-i
-invariant-loop-i l = (l.i ≤ length l.initial.output) × Filled (entry l.field l.w l.strips l.o l.initial.output) l.i l.initial.output l.output
-
-abbrev pub decreases-loop-i : goal.decreases-loop-i
-decreases-loop-i l = length l.initial.output - l.i
+invariant-loop-i l = Filled (entry l.field l.w l.strips l.o l.initial.output) l.i l.initial.output l.output

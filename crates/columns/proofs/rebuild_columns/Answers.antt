@@ -1,5 +1,5 @@
 use mathlib.Core.Path.{◌≡◌, refl, sym, ap, ◌∙◌}
-use Prim.Native.Nat.{ℕ, ◌*◌}
+use Prim.Native.Nat.{ℕ}
 use native.Mathlib.Omega.{arith}
 use lib.ListN.{length, set, take}
 use Rattle.algebra.specs.Sequence.{column}
@@ -7,13 +7,6 @@ use Rattle.algebra.proofs.Filling.{filled_none, filled_more, filled_all}
 use Rattle.field.specs.Polynomial.{dotted}
 use Rattle.columns.proofs.Columns.{column_alone}
 use Rattle.columns.proofs.rebuild_columns.Goals as goal
-
-pub rebuild_column-requires : goal.rebuild_column-requires
-rebuild_column-requires c =
-    (c.requires.1, omega (arith, c.requires.3, ap (λ l. c.args.r * l) c.if-output-eq1.true))
-
-pub bounds-output-0 : goal.bounds-output-0
-bounds-output-0 c = omega (arith, c.if-output-eq1.true)
 
 pub returns-then-output-eq1 : goal.returns-then-output-eq1
 returns-then-output-eq1 c =

@@ -8,5 +8,5 @@ returns c =
     let a = c.args in
     let rows = c.widen.new.rows in
     let k = c.combine_long in
-    combined_widened a.weights.now a.r a.strips.now rows a.output.now (replicate 64 0) k.new.output c.copy.new.target refl c.requires.1
+    combined_widened a.weights.now _ a.strips.now rows a.output.now (replicate 64 0) k.new.output c.copy.new.target refl c.requires.1
     c.widen.ensures k.ensures c.copy.ensures

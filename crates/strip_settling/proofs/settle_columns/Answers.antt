@@ -1,16 +1,11 @@
-use mathlib.Core.Path.{sym, subst, ◌∙◌}
+use mathlib.Core.Path.{sym, subst}
 use Prim.Native.Nat.{ℕ, ◌+◌, ◌*◌}
 use native.Mathlib.Omega.{arith}
 use lib.ListN.{drop}
 use Rattle.strip_settling.specs.Step.{ColumnSettled}
-use Rattle.strip_settling.proofs.Settling.{Settled, settled_start, settled_more, settled_none, settled_all}
+use Rattle.strip_settling.proofs.Settling.{Settled, settled_one, settled_two, settled_none, settled_all}
 use Rattle.strip_settling.proofs.settle_columns.Goals as goal
-
-pub loop-c-init : goal.loop-c-init
-loop-c-init c =
-    let a = c.args in
-    let r = c.requires in
-    (r.1, r.2, r.3, r.4, settled_start a.shape a.l a.words.now a.marks.now a.start (drop (a.shape.n * (a.shape.k + 1)) a.room.now) r.5)
+use Rattle.strip_settling.proofs.settle_columns.Goals.{then-next-ne0, else-next-ne0}
 
 pub returns-then-next-eq9 : goal.returns-then-next-eq9
 returns-then-next-eq9 c =
@@ -23,21 +18,20 @@ returns-then-next-eq9 c =
 pub loop-c-preserved : goal.loop-c-preserved
 loop-c-preserved c =
     let a = c.args in
+    let l = c.loop-c in
     let t = c.settle_column-next in
-    let i = c.loop-c.invariant in
-    let u : ℕ = a.shape.n * (a.shape.k + 1) in (
-      omega (arith, c.loop-c-test.true),
-      t.auto.word ∙ i.1,
-      t.auto.message ∙ i.2,
-      t.auto.room ∙ i.3,
-      subst (λ (x : ℕ). Settled a.shape a.l a.words.now a.marks.now (c.loop-c.c + 1) x (drop u t.new.room)) (sym c.later-answer.ensures)
-          (settled_more a.shape a.l a.words.now a.marks.now c.loop-c.c (drop u c.loop-c.room) (drop u t.new.room) c.loop-c-test.true c.loop-c.answer t.result
-          c.if-next-eq9.false t.ensures i.4),
-    )
+    let u : ℕ = a.shape.n * (a.shape.k + 1) in
+    elim c.if-next-ne0.branch [
+      | then-next-ne0 w ↦ subst (λ (x : ℕ). Settled a.shape a.l a.words.now a.marks.now (l.c + 1) x (drop u t.new.room)) (sym w.answer-is)
+          (settled_two a.shape a.l a.words.now a.marks.now l.c (drop u l.room) (drop u t.new.room) c.loop-c-test.true l.answer t.result
+          c.if-next-eq9.false w.if-next-ne0.true t.ensures l.invariant)
+      | else-next-ne0 w ↦ subst (λ (x : ℕ). Settled a.shape a.l a.words.now a.marks.now (l.c + 1) x (drop u t.new.room)) (sym w.answer-is)
+          (settled_one a.shape a.l a.words.now a.marks.now l.c (drop u l.room) (drop u t.new.room) c.loop-c-test.true l.answer t.result
+          w.if-next-ne0.false t.ensures l.invariant)
+    ]
 
 pub returns : goal.returns
 returns c =
     let a = c.args in
     let l = c.loop-c in
-    settled_all a.shape a.l a.words.now a.marks.now l.c l.answer (drop (a.shape.n * (a.shape.k + 1)) l.room) (omega (arith, c.loop-c-test.false, l.invariant.0))
-    l.invariant.4
+    settled_all a.shape a.l a.words.now a.marks.now l.c l.answer (drop (a.shape.n * (a.shape.k + 1)) l.room) (omega arith) l.invariant

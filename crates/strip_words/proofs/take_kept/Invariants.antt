@@ -1,11 +1,6 @@
-use Prim.Native.Nat.{◌-◌, ◌≤◌}
-use lib.ListN.{length}
 use Rattle.algebra.proofs.Filling.{Filled}
 use Rattle.strip_words.specs.Strips.{kept_symbol}
 use Rattle.strip_words.proofs.take_kept.Given as goal
 
 abbrev pub invariant-loop-m : goal.invariant-loop-m
-invariant-loop-m l = (l.m ≤ length l.initial.buffer) × Filled (kept_symbol l.l l.c l.words l.marks) l.m l.initial.buffer l.buffer
-
-abbrev pub decreases-loop-m : goal.decreases-loop-m
-decreases-loop-m l = length l.initial.buffer - l.m
+invariant-loop-m l = Filled (kept_symbol l.l l.c l.words l.marks) l.m l.initial.buffer l.buffer

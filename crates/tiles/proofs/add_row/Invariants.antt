@@ -1,5 +1,5 @@
 use mathlib.Core.Path.{◌≡◌}
-use Prim.Native.Nat.{ℕ, ◌-◌, ◌≤◌}
+use Prim.Native.Nat.{ℕ}
 use lib.ListN.{length}
 use Rattle.algebra.specs.Sequence.{tabulate}
 use Rattle.tiles.proofs.Tiles.{row_added}
@@ -7,8 +7,5 @@ use Rattle.tiles.proofs.add_row.Given as goal
 
 abbrev pub invariant-loop-k : goal.invariant-loop-k
 invariant-loop-k l =
-    (l.k ≤ l.n) × (length l.t ≡ length l.initial.t)
+    (length l.t ≡ length l.initial.t)
     × ((b : ℕ → ℕ) → l.initial.t ≡ tabulate (row_added l.strips l.offsets l.m l.c b (length l.initial.t) l.start) (length l.initial.t) → l.t ≡ tabulate (row_added l.strips l.offsets l.m l.c b (length l.initial.t) l.k) (length l.initial.t))
-
-abbrev pub decreases-loop-k : goal.decreases-loop-k
-decreases-loop-k l = l.n - l.k

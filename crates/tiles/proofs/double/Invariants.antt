@@ -1,6 +1,5 @@
 use mathlib.Core.List.{List}
-use Prim.Native.Nat.{ℕ, ◌-◌, ◌≤◌}
-use lib.ListN.{length}
+use Prim.Native.Nat.{ℕ}
 use Rattle.algebra.specs.Sequence.{at}
 use Rattle.algebra.proofs.Filling.{Filled}
 use Rattle.field.specs.Field.{doubled}
@@ -9,8 +8,5 @@ use Rattle.tiles.proofs.double.Given as goal
 abbrev pub entry : List ℕ → ℕ → ℕ
 entry t i = doubled (at t i)
 
-abbrev pub invariant-loop-i : goal.invariant-loop-i
-invariant-loop-i l = (l.i ≤ length l.initial.t) × Filled (entry l.initial.t) l.i l.initial.t l.t
-
-abbrev pub decreases-loop-i : goal.decreases-loop-i
-decreases-loop-i l = length l.initial.t - l.i
+abbrev pub invariant-loop-x : goal.invariant-loop-x
+invariant-loop-x l = Filled (entry l.initial.t) l.x-index l.initial.t l.t
