@@ -109,11 +109,9 @@ pub fn turn(from: &[u8], m: usize, to: &mut [u8], o: usize)
     requires { (m + 256 ≤ length from.now) × (o + 256 ≤ length to.old) }
     ensures { Turned from.now m o to.old to.new }
 {
-    let mut i: usize = 0;
-    while i < 32 {
+    for i in 0..32usize {
         let v = lanes::lane_of(from, m + i);
         let w = transposed(&v);
         lanes::put_lane(&w, to, o + i);
-        i += 1;
     }
 }
