@@ -4,7 +4,7 @@
 --   one_entry, four_entries                  the sum of the entries of a level, of one table and of four
 --   Levelling f n a z                        == the tile a has become z: the lanes below n have the symbols f, the others are unchanged
 --   Raised g k .. a i v                      == the lane v has the symbols of lane i of the tile a after k levels
---   levelling_none, levelling_more, levelling_all, raised_none, raised_more
+--   levelling_more, raised_none, raised_more
 use mathlib.Core.Path.{◌≡◌, refl, sym, ap, ap₂, ◌∙◌}
 use mathlib.Core.Logic.{◌≢◌}
 use mathlib.Core.List.{List}
@@ -20,7 +20,7 @@ use Rattle.field.proofs.Byte.{◌⊕◌, zero_⊕}
 use Rattle.tiles.specs.Step.{sum}
 use Rattle.tiles.proofs.Sum.{sum_none, sum_more}
 use Rattle.lanes.specs.Lane.{lane, symbol_at, shown, PutLane}
-use Rattle.plane_sums.specs.Level.{Bytes, Next, folded, entries, Levelled}
+use Rattle.plane_sums.specs.Level.{Bytes, Next, folded, entries}
 use Rattle.plane_sums.proofs.Shown.{lane_at, shown_below, shown_same, put_symbol, put_other}
 
 pub folded_none : (e : ℕ → ℕ) (x : ℕ) → folded e 0 x ≡ x
@@ -74,9 +74,6 @@ pub record Levelling (f : ℕ → ℕ → ℕ) (n : ℕ) (a z : List ℕ) : Type
   pub done : (s i : ℕ) → s < 8 → i < n → i < 32 → shown z 0 s i ≡ f s i
   pub rest : (s i : ℕ) → n ≤ i → i < 32 → shown z 0 s i ≡ shown a 0 s i
 
-pub levelling_none : (f : ℕ → ℕ → ℕ) (a : List ℕ) → ((i : ℕ) → i < 32 → Bytes (lane a i)) → Levelling f 0 a a
-levelling_none f a b = record { size = refl; bytes = b; done = λ s i h l k. absurd (omega arith); rest = λ s i h l. refl }
-
 -- lane i of the tile a after k levels
 pub record Raised (g k : ℕ) (ps : List ℕ) (m : ℕ) (ts a : List ℕ) (i : ℕ) (v : List ℕ) : Type 0 where
   pub bytes : Bytes v
@@ -121,7 +118,3 @@ module _ (f : ℕ → ℕ → ℕ) (n : ℕ) (v a y z : List ℕ) (h : n < 32) (
       go : (s i : ℕ) → s < 8 → i < n + 1 → i < 32 → Dec (i ≡ n) → shown z 0 s i ≡ f s i
       go s i l k g (yes q) = ap (λ o. symbol_at (lane z o) s) (zero-add i ∙ q) ∙ put_symbol v n y z s P ∙ e s l ∙ ap (f s) (sym q)
       go s i l k g (no q) = kept s i g q ∙ L.done s i l (omega arith) g
-
-pub levelling_all : (g k : ℕ) (ps : List ℕ) (m : ℕ) (ts a z : List ℕ) (n : ℕ) → 32 ≤ n
-    → Levelling (λ s i. folded (entries g ps m ts s i) k (shown a 0 s i)) n a z → Levelled g k ps m ts a z
-levelling_all g k ps m ts a z n h L = record { size = L.size; bytes = L.bytes; own = λ s i l b. L.done s i l (omega arith) b }

@@ -26,10 +26,8 @@ pub fn plan_quad(weights: &[u8], x: usize, plan: &mut [u8], m: usize, d: usize)
     let b = weights[x + 1];
     let c = weights[x + 2];
     let e = weights[x + 3];
-    let mut l: usize = 0;
-    while l < 8 {
+    for l in 0..8usize {
         plan[m + l * d] = nibble(a, b, c, e, l);
-        l += 1;
     }
 }
 
@@ -38,10 +36,8 @@ fn add_to(tiles: &[u8], a: usize, table: &mut [u8], b: usize, o: usize)
     requires { (a + 256 ≤ length tiles.now) × (b + 256 ≤ o) × (o + 256 ≤ length table.old) }
     ensures { Laid (λ i. xor_from 8 (at tiles.now (a + i)) (at table.old (b + i))) o 256 table.old table.new }
 {
-    let mut i: usize = 0;
-    while i < 256 {
+    for i in 0..256usize {
         table[o + i] = tiles[a + i] ^ table[b + i];
-        i += 1;
     }
 }
 
@@ -50,10 +46,8 @@ fn double_sums(tiles: &[u8], a: usize, table: &mut [u8], o: usize, h: usize)
     requires { (a + 256 ≤ length tiles.now) × (h ≤ 8) × (o + (h + h) * 256 ≤ length table.old) }
     ensures { Doubled tiles.now a o h table.old table.new }
 {
-    let mut y: usize = 0;
-    while y < h {
+    for y in 0..h {
         add_to(tiles, a, table, o + y * 256, o + (h + y) * 256);
-        y += 1;
     }
 }
 
@@ -62,11 +56,7 @@ fn clear_tile(table: &mut [u8], o: usize)
     requires { o + 256 ≤ length table.old }
     ensures { Laid (λ i. 0) o 256 table.old table.new }
 {
-    let mut i: usize = 0;
-    while i < 256 {
-        table[o + i] = 0;
-        i += 1;
-    }
+    table[o..o + 256].fill(0);
 }
 
 // Writes the table of the sixteen sums of the four tiles from place m on.
@@ -146,8 +136,7 @@ fn four_levels(t: &mut [u8; 256], table: &[u8], plan: &[u8], m: usize)
     let b = entry(plan, m + 1, 0);
     let c = entry(plan, m + 2, 0);
     let d = entry(plan, m + 3, 0);
-    let mut i: usize = 0;
-    while i < 32 {
+    for i in 0..32usize {
         let v = lanes::lane_of(t, i);
         let e = lanes::lane_of(table, a + i);
         let w = level(&v, &e);
@@ -158,7 +147,6 @@ fn four_levels(t: &mut [u8; 256], table: &[u8], plan: &[u8], m: usize)
         let h = lanes::lane_of(table, d + i);
         let z = level(&y, &h);
         lanes::put_lane(&z, t, i);
-        i += 1;
     }
 }
 
@@ -175,15 +163,13 @@ fn two_levels(t: &mut [u8; 256], table: &[u8], plan: &[u8], m: usize)
     let f = entry(plan, m + 5, 1);
     let g = entry(plan, m + 6, 2);
     let h = entry(plan, m + 7, 3);
-    let mut i: usize = 0;
-    while i < 32 {
+    for i in 0..32usize {
         let v = lanes::lane_of(t, i);
         let x = four_lanes(table, a + i, b + i, c + i, d + i);
         let w = level(&v, &x);
         let y = four_lanes(table, e + i, f + i, g + i, h + i);
         let z = level(&w, &y);
         lanes::put_lane(&z, t, i);
-        i += 1;
     }
 }
 
@@ -193,10 +179,8 @@ pub fn write_row(plan: &[u8], m: usize, table: &[u8], out: &mut [u8], o: usize)
     ensures { RowWritten 1 plan.now m table.now o out.old out.new }
 {
     let mut t = [0u8; 256];
-    let mut l: usize = 0;
-    while l < 8 {
-        four_levels(&mut t, table, plan, m + l);
-        l += 4;
+    for l in 0..2usize {
+        four_levels(&mut t, table, plan, m + l * 4);
     }
     copying::copy(&t, 0, 256, out, o);
 }
@@ -207,10 +191,8 @@ pub fn write_wide_row(plan: &[u8], m: usize, table: &[u8], out: &mut [u8], o: us
     ensures { RowWritten 4 plan.now m table.now o out.old out.new }
 {
     let mut t = [0u8; 256];
-    let mut l: usize = 0;
-    while l < 32 {
-        two_levels(&mut t, table, plan, m + l);
-        l += 8;
+    for l in 0..4usize {
+        two_levels(&mut t, table, plan, m + l * 8);
     }
     copying::copy(&t, 0, 256, out, o);
 }

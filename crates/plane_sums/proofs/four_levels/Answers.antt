@@ -7,7 +7,7 @@ use Rattle.algebra.specs.Sequence.{at}
 use Rattle.lanes.specs.Lane.{lane, symbol_at, shown}
 use Rattle.plane_sums.specs.Level.{Next, folded, entries}
 use Rattle.plane_sums.proofs.Shown.{lane_bytes}
-use Rattle.plane_sums.proofs.Levels.{within, one_entry, levelling_none, levelling_more, levelling_all, Raised, raised_none, raised_more}
+use Rattle.plane_sums.proofs.Levels.{within, one_entry, levelling_more, Raised, raised_none, raised_more}
 use Rattle.plane_sums.proofs.four_levels.Goals as goal
 use Rattle.plane_sums.proofs.four_levels.Goals.{In-loop-i}
 
@@ -41,9 +41,6 @@ raised_by : (plan : List ℕ) (m : ℕ) (table tile : List ℕ) (i k q a : ℕ) 
 raised_by plan m table tile i k q a v d z e f h N U =
     raised_more 1 plan m table tile i k v d z (λ s b. ap (λ x. symbol_at x s) h ∙ one_entry plan m table s i k q a e f) N U
 
-pub loop-i-init : goal.loop-i-init
-loop-i-init c = let a = c.args in (omega arith, levelling_none (risen a.plan.now a.m a.table.now a.t.now) a.t.now c.requires.1)
-
 pub overflow_add-a : goal.overflow_add-a
 overflow_add-a c = omega (arith, near_a (goal.at.overflow_add-a c).In-loop-i)
 
@@ -54,7 +51,7 @@ pub level-w-requires : goal.level-w-requires
 level-w-requires c =
     let a = c.args in
     let l = c.loop-i in (
-      (raised_none 1 a.plan.now a.m a.table.now a.t.now l.i (risen a.plan.now a.m a.table.now a.t.now) l.t _ c.loop-i-test.true c.lane_of-v.ensures l.invariant.1).bytes,
+      (raised_none 1 a.plan.now a.m a.table.now a.t.now l.i (risen a.plan.now a.m a.table.now a.t.now) l.t _ c.loop-i-test.true c.lane_of-v.ensures l.invariant).bytes,
       lane_bytes a.table.now _ _ c.lane_of-e.ensures (λ x. omega (arith, c.type_inv.table x)),
     )
 
@@ -93,17 +90,9 @@ loop-i-preserved c =
     let s = a.table.now in
     let t = a.t.now in
     let f = risen p a.m s t in
-    let none = raised_none 1 p a.m s t l.i f l.t _ c.loop-i-test.true c.lane_of-v.ensures l.invariant.1 in
+    let none = raised_none 1 p a.m s t l.i f l.t _ c.loop-i-test.true c.lane_of-v.ensures l.invariant in
     let one = raised_by p a.m s t l.i 0 _ c.entry-a.result _ _ _ (omega arith) c.entry-a.ensures c.lane_of-e.ensures c.level-w.ensures none in
     let two = raised_by p a.m s t l.i 1 _ c.entry-b.result _ _ _ (omega arith) c.entry-b.ensures c.lane_of-f.ensures c.level-x.ensures one in
     let three = raised_by p a.m s t l.i 2 _ c.entry-c.result _ _ _ (omega arith) c.entry-c.ensures c.lane_of-g.ensures c.level-y.ensures two in
-    let four = raised_by p a.m s t l.i 3 _ c.entry-d.result _ _ _ (omega arith) c.entry-d.ensures c.lane_of-h.ensures c.level-z.ensures three in (
-      omega (arith, c.loop-i-test.true),
-      levelling_more f l.i _ t l.t _ c.loop-i-test.true c.put_lane.ensures four.bytes four.own l.invariant.1,
-    )
-
-pub returns : goal.returns
-returns c =
-    let a = c.args in
-    let l = c.loop-i in
-    levelling_all 1 4 a.plan.now a.m a.table.now a.t.now l.t l.i c.loop-i-test.false l.invariant.1
+    let four = raised_by p a.m s t l.i 3 _ c.entry-d.result _ _ _ (omega arith) c.entry-d.ensures c.lane_of-h.ensures c.level-z.ensures three in
+    levelling_more f l.i _ t l.t _ c.loop-i-test.true c.put_lane.ensures four.bytes four.own l.invariant

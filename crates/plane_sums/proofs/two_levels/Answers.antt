@@ -6,7 +6,7 @@ use lib.ListN.{length}
 use Rattle.algebra.specs.Sequence.{at}
 use Rattle.lanes.specs.Lane.{shown}
 use Rattle.plane_sums.specs.Level.{folded, entries}
-use Rattle.plane_sums.proofs.Levels.{within, four_entries, levelling_none, levelling_more, levelling_all, raised_none, raised_more}
+use Rattle.plane_sums.proofs.Levels.{within, four_entries, levelling_more, raised_none, raised_more}
 use Rattle.plane_sums.proofs.two_levels.Goals as goal
 use Rattle.plane_sums.proofs.two_levels.Goals.{In-loop-i}
 
@@ -38,9 +38,6 @@ near_second c = (
   near c 7 _ 3 c.entry-h.result (omega arith) (omega arith) (omega arith) c.entry-h.ensures,
 )
 
-pub loop-i-init : goal.loop-i-init
-loop-i-init c = let a = c.args in (omega arith, levelling_none (risen a.plan.now a.m a.table.now a.t.now) a.t.now c.requires.1)
-
 pub overflow_add-a : goal.overflow_add-a
 overflow_add-a c = omega (arith, (near_first (goal.at.overflow_add-a c).In-loop-i).0)
 
@@ -60,7 +57,7 @@ pub level-w-requires : goal.level-w-requires
 level-w-requires c =
     let a = c.args in
     let l = c.loop-i in (
-      (raised_none 4 a.plan.now a.m a.table.now a.t.now l.i (risen a.plan.now a.m a.table.now a.t.now) l.t _ c.loop-i-test.true c.lane_of-v.ensures l.invariant.1).bytes,
+      (raised_none 4 a.plan.now a.m a.table.now a.t.now l.i (risen a.plan.now a.m a.table.now a.t.now) l.t _ c.loop-i-test.true c.lane_of-v.ensures l.invariant).bytes,
       c.four_lanes-x.ensures.bytes,
     )
 
@@ -87,7 +84,7 @@ loop-i-preserved c =
     let s = a.table.now in
     let t = a.t.now in
     let f = risen p a.m s t in
-    let none = raised_none 4 p a.m s t l.i f l.t _ c.loop-i-test.true c.lane_of-v.ensures l.invariant.1 in
+    let none = raised_none 4 p a.m s t l.i f l.t _ c.loop-i-test.true c.lane_of-v.ensures l.invariant in
     let one =
     raised_more 4 p a.m s t l.i 0 _ _ _
     (λ b h. c.four_lanes-x.ensures.own b h
@@ -99,13 +96,5 @@ loop-i-preserved c =
     (λ b h. c.four_lanes-y.ensures.own b h
     ∙ four_entries p a.m s b l.i 1 (a.m + 4) (a.m + 5) (a.m + 6) (a.m + 7) _ _ _ _ (omega arith) (omega arith) (omega arith) (omega arith)
     c.entry-e.ensures c.entry-f.ensures c.entry-g.ensures c.entry-h.ensures)
-    c.level-z.ensures one in (
-      omega (arith, c.loop-i-test.true),
-      levelling_more f l.i _ t l.t _ c.loop-i-test.true c.put_lane.ensures two.bytes two.own l.invariant.1,
-    )
-
-pub returns : goal.returns
-returns c =
-    let a = c.args in
-    let l = c.loop-i in
-    levelling_all 4 2 a.plan.now a.m a.table.now a.t.now l.t l.i c.loop-i-test.false l.invariant.1
+    c.level-z.ensures one in
+    levelling_more f l.i _ t l.t _ c.loop-i-test.true c.put_lane.ensures two.bytes two.own l.invariant

@@ -1,4 +1,3 @@
-use Prim.Native.Nat.{◌-◌, ◌≤◌}
 use Rattle.lanes.specs.Lane.{shown}
 use Rattle.plane_sums.specs.Level.{folded, entries}
 use Rattle.plane_sums.proofs.Levels.{Levelling}
@@ -6,8 +5,4 @@ use Rattle.plane_sums.proofs.two_levels.Given as goal
 
 -- the lanes below i have the symbols after two levels
 abbrev pub invariant-loop-i : goal.invariant-loop-i
-invariant-loop-i l =
-    (l.i ≤ 32) × Levelling (λ s i. folded (entries 4 l.plan l.m l.table s i) 2 (shown l.initial.t 0 s i)) l.i l.initial.t l.t
-
-abbrev pub decreases-loop-i : goal.decreases-loop-i
-decreases-loop-i l = 32 - l.i
+invariant-loop-i l = Levelling (λ s i. folded (entries 4 l.plan l.m l.table s i) 2 (shown l.initial.t 0 s i)) l.i l.initial.t l.t
