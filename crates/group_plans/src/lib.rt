@@ -31,11 +31,9 @@ pub fn plan_groups(shape: Shape, plan: &mut [u8], powers: &[u8; 255], logs: &[u8
     let groups = layout::groups_of(shape);
     let blocks = blocks_of(shape);
     let g = tables_for(blocks);
-    let mut j: u32 = 0;
-    while j < groups {
+    for j in 0..groups {
         let y = layout::group_power(shape, j, powers);
         tile_evaluation::plan_powers(y, blocks, g, plan, j as usize * 32, powers, logs);
-        j += 1;
     }
 }
 
@@ -46,10 +44,8 @@ pub fn plan_slots(shape: Shape, plan: &mut [u8], powers: &[u8; 255], logs: &[u8;
 {
     let r = shape.r as usize;
     let g = tables_for(r);
-    let mut p: u32 = 0;
-    while p < shape.n {
+    for p in 0..shape.n {
         let x = layout::point_of(shape, p, powers);
         tile_evaluation::plan_powers(x, r, g, plan, p as usize * 32, powers, logs);
-        p += 1;
     }
 }
