@@ -5,9 +5,10 @@ ghost use Rattle.std.specs.Prelude.{◌≡◌, ℕ, ◌+◌, ◌*◌, ◌-◌, �
 ghost use Rattle.algebra.specs.Sequence.{at};
 ghost use Rattle.algebra.specs.Writing.{Laid};
 ghost use Rattle.field.specs.Field.{xor_from};
-ghost use Rattle.lanes.specs.Lane.{bit, lane};
+ghost use Rattle.tiles.specs.Step.{sum};
+ghost use Rattle.lanes.specs.Lane.{bit, lane, symbol_at, shown};
 ghost use Rattle.plane_sums.specs.Step.{QuadPlanned, SumsWritten, RowWritten};
-ghost use Rattle.plane_sums.specs.Level.{Bytes, Added, Next, FourAdded, Levelled, Doubled};
+ghost use Rattle.plane_sums.specs.Level.{Bytes, Added, Next, Levelled, Doubled};
 
 // Bit 7 - l of four weights as a number below 16.
 fn nibble(a: u8, b: u8, c: u8, d: u8, l: usize) -> u8
@@ -105,71 +106,31 @@ fn level(v: &[u8; 8], e: &[u8; 8]) -> [u8; 8]
     ]
 }
 
-// The sum of the lanes at a, b, c and d.
-fn four_lanes(table: &[u8], a: usize, b: usize, c: usize, d: usize) -> [u8; 8]
-    requires { (a + 224 < length table.now) × (b + 224 < length table.now) × (c + 224 < length table.now) × (d + 224 < length table.now) }
-    ensures { FourAdded table.now a b c d result }
+// The sum of lane i of the entries that the plan has from place m on, one of each of G tables.
+fn entry_lane<const G: usize>(table: &[u8], plan: &[u8], m: usize, i: usize) -> [u8; 8]
+    requires { (m + G ≤ length plan.now) × ((h : ℕ) → h < G → at plan.now (m + h) < 16) × (G * 4096 ≤ length table.now) × (i < 32) }
+    ensures { Bytes result × ((s : ℕ) → s < 8 → symbol_at result s ≡ sum 0 (λ h. shown table.now (at plan.now (m + h) * 256 + h * 4096) s i) G) }
 {
-    let v = lanes::lane_of(table, a);
-    let w = lanes::lane_of(table, b);
-    let x = lanes::lane_of(table, c);
-    let y = lanes::lane_of(table, d);
-    let vw = added(&v, &w);
-    let xy = added(&x, &y);
-    added(&vw, &xy)
-}
-
-// The place of the entry that the plan has at m, in table h.
-fn entry(plan: &[u8], m: usize, h: usize) -> usize
-    requires { (m < length plan.now) × (h < 4) }
-    ensures { result ≡ at plan.now m * 256 + h * 4096 }
-{
-    plan[m] as usize * 256 + h * 4096
-}
-
-// Four levels of the tile t: the entries of a table that the plan has from place m on.
-fn four_levels(t: &mut [u8; 256], table: &[u8], plan: &[u8], m: usize)
-    requires { (length t.old ≡ 256) × ((i : ℕ) → i < 32 → Bytes (lane t.old i)) × (m + 4 ≤ length plan.now) × ((l : ℕ) → l < 4 → at plan.now (m + l) < 16) × (4096 ≤ length table.now) }
-    ensures { Levelled 1 4 plan.now m table.now t.old t.new }
-{
-    let a = entry(plan, m, 0);
-    let b = entry(plan, m + 1, 0);
-    let c = entry(plan, m + 2, 0);
-    let d = entry(plan, m + 3, 0);
-    for i in 0..32usize {
-        let v = lanes::lane_of(t, i);
-        let e = lanes::lane_of(table, a + i);
-        let w = level(&v, &e);
-        let f = lanes::lane_of(table, b + i);
-        let x = level(&w, &f);
-        let g = lanes::lane_of(table, c + i);
-        let y = level(&x, &g);
-        let h = lanes::lane_of(table, d + i);
-        let z = level(&y, &h);
-        lanes::put_lane(&z, t, i);
+    let mut z = [0u8; 8];
+    for h in 0..G {
+        let e = lanes::lane_of(table, plan[m + h] as usize * 256 + h * 4096 + i);
+        z = added(&z, &e);
     }
+    z
 }
 
-// Two levels of the tile t: the sums of the entries of four tables that the plan has from place m on.
-fn two_levels(t: &mut [u8; 256], table: &[u8], plan: &[u8], m: usize)
-    requires { (length t.old ≡ 256) × ((i : ℕ) → i < 32 → Bytes (lane t.old i)) × (m + 8 ≤ length plan.now) × ((l : ℕ) → l < 8 → at plan.now (m + l) < 16) × (16384 ≤ length table.now) }
-    ensures { Levelled 4 2 plan.now m table.now t.old t.new }
+// N levels of the tile t: the sums of the entries of G tables that the plan has from place m on.
+fn rise<const G: usize, const N: usize>(t: &mut [u8; 256], table: &[u8], plan: &[u8], m: usize)
+    requires { (length t.old ≡ 256) × ((i : ℕ) → i < 32 → Bytes (lane t.old i)) × (m + N * G ≤ length plan.now) × ((l : ℕ) → l < N * G → at plan.now (m + l) < 16) × (G * 4096 ≤ length table.now) }
+    ensures { Levelled G N plan.now m table.now t.old t.new }
 {
-    let a = entry(plan, m, 0);
-    let b = entry(plan, m + 1, 1);
-    let c = entry(plan, m + 2, 2);
-    let d = entry(plan, m + 3, 3);
-    let e = entry(plan, m + 4, 0);
-    let f = entry(plan, m + 5, 1);
-    let g = entry(plan, m + 6, 2);
-    let h = entry(plan, m + 7, 3);
     for i in 0..32usize {
-        let v = lanes::lane_of(t, i);
-        let x = four_lanes(table, a + i, b + i, c + i, d + i);
-        let w = level(&v, &x);
-        let y = four_lanes(table, e + i, f + i, g + i, h + i);
-        let z = level(&w, &y);
-        lanes::put_lane(&z, t, i);
+        let mut v = lanes::lane_of(t, i);
+        for k in 0..N {
+            let e = entry_lane::<G>(table, plan, m + k * G, i);
+            v = level(&v, &e);
+        }
+        lanes::put_lane(&v, t, i);
     }
 }
 
@@ -180,7 +141,7 @@ pub fn write_row(plan: &[u8], m: usize, table: &[u8], out: &mut [u8], o: usize)
 {
     let mut t = [0u8; 256];
     for l in 0..2usize {
-        four_levels(&mut t, table, plan, m + l * 4);
+        rise::<1, 4>(&mut t, table, plan, m + l * 4);
     }
     copying::copy(&t, 0, 256, out, o);
 }
@@ -192,7 +153,7 @@ pub fn write_wide_row(plan: &[u8], m: usize, table: &[u8], out: &mut [u8], o: us
 {
     let mut t = [0u8; 256];
     for l in 0..4usize {
-        two_levels(&mut t, table, plan, m + l * 8);
+        rise::<4, 2>(&mut t, table, plan, m + l * 8);
     }
     copying::copy(&t, 0, 256, out, o);
 }

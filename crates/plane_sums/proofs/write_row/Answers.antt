@@ -6,7 +6,7 @@ pub loop-l-init : goal.loop-l-init
 loop-l-init c = risen_none
 
 pub loop-l-preserved : goal.loop-l-preserved
-loop-l-preserved c = risen_more (omega arith) (omega arith) c.four_levels.ensures c.loop-l.invariant
+loop-l-preserved c = risen_more (omega arith) (omega arith) c.rise.ensures c.loop-l.invariant
 
 pub returns : goal.returns
 returns c = risen_written (omega arith) c.loop-l.invariant c.copy.ensures

@@ -7,8 +7,8 @@ use Rattle.plane_sums.proofs.write_wide_row.Goals as goal
 pub loop-l-init : goal.loop-l-init
 loop-l-init c = risen_none
 
-pub two_levels-requires : goal.two_levels-requires
-two_levels-requires c =
+pub rise-requires : goal.rise-requires
+rise-requires c =
     let l = c.loop-l in (
       l.invariant.size,
       l.invariant.bytes,
@@ -18,7 +18,7 @@ two_levels-requires c =
     )
 
 pub loop-l-preserved : goal.loop-l-preserved
-loop-l-preserved c = risen_more (omega arith) (omega arith) c.two_levels.ensures c.loop-l.invariant
+loop-l-preserved c = risen_more (omega arith) (omega arith) c.rise.ensures c.loop-l.invariant
 
 pub returns : goal.returns
 returns c = risen_written (omega arith) c.loop-l.invariant c.copy.ensures
