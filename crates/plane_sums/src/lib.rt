@@ -1,7 +1,7 @@
 // Sums of weight times symbol over tiles of bit planes: tables of the sixteen sums of four tiles, and Horner's rule over the bits of the weights.
 #![tactic(auto)]
 
-ghost use Rattle.std.specs.Prelude.{◌≡◌, ℕ, ◌+◌, ◌*◌, ◌-◌, ◌≤◌, ◌<◌, length};
+ghost use Rattle.std.specs.Prelude.{◌≡◌, ℕ, ◌+◌, ◌*◌, ◌-◌, ◌%◌, ◌≤◌, ◌<◌, length};
 ghost use Rattle.algebra.specs.Sequence.{at};
 ghost use Rattle.algebra.specs.Writing.{Laid};
 ghost use Rattle.field.specs.Field.{xor_from};
@@ -134,26 +134,20 @@ fn rise<const G: usize, const N: usize>(t: &mut [u8; 256], table: &[u8], plan: &
     }
 }
 
-// Writes to the tile at o the sums over four inputs: the plan has their weights from place m on.
-pub fn write_row(plan: &[u8], m: usize, table: &[u8], out: &mut [u8], o: usize)
-    requires { (m + 8 ≤ length plan.now) × ((l : ℕ) → l < 8 → at plan.now (m + l) < 16) × (4096 ≤ length table.now) × (o + 256 ≤ length out.old) }
-    ensures { RowWritten 1 plan.now m table.now o out.old out.new }
+// Writes to the tile at o the sums over 4 G inputs, N levels a turn: the plan has their weights from place m on.
+pub fn write_row<const G: usize, const N: usize>(
+    plan: &[u8],
+    m: usize,
+    table: &[u8],
+    out: &mut [u8],
+    o: usize,
+)
+    requires { (1 ≤ N) × (8 % N ≡ 0) × (m + 8 * G ≤ length plan.now) × ((l : ℕ) → l < 8 * G → at plan.now (m + l) < 16) × (G * 4096 ≤ length table.now) × (o + 256 ≤ length out.old) }
+    ensures { RowWritten G plan.now m table.now o out.old out.new }
 {
     let mut t = [0u8; 256];
-    for l in 0..2usize {
-        rise::<1, 4>(&mut t, table, plan, m + l * 4);
-    }
-    copying::copy(&t, 0, 256, out, o);
-}
-
-// Writes to the tile at o the sums over sixteen inputs: the plan has their weights from place m on.
-pub fn write_wide_row(plan: &[u8], m: usize, table: &[u8], out: &mut [u8], o: usize)
-    requires { (m + 32 ≤ length plan.now) × ((l : ℕ) → l < 32 → at plan.now (m + l) < 16) × (16384 ≤ length table.now) × (o + 256 ≤ length out.old) }
-    ensures { RowWritten 4 plan.now m table.now o out.old out.new }
-{
-    let mut t = [0u8; 256];
-    for l in 0..4usize {
-        rise::<4, 2>(&mut t, table, plan, m + l * 8);
+    for l in 0..8 / N {
+        rise::<G, N>(&mut t, table, plan, m + l * N * G);
     }
     copying::copy(&t, 0, 256, out, o);
 }

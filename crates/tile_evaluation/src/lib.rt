@@ -57,8 +57,8 @@ pub fn write_value(g: usize, plan: &[u8], p: usize, table: &[u8], out: &mut [u8]
         → ValueWritten x n (λ e. shown xs (m + e * 256)) o out.old out.new }
 {
     if g == 1 {
-        plane_sums::write_row(plan, p, table, out, o);
+        plane_sums::write_row::<1, 4>(plan, p, table, out, o);
         return;
     }
-    plane_sums::write_wide_row(plan, p, table, out, o);
+    plane_sums::write_row::<4, 2>(plan, p, table, out, o);
 }

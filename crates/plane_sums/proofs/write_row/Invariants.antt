@@ -3,4 +3,4 @@ use Rattle.plane_sums.proofs.Rows.{Risen}
 use Rattle.plane_sums.proofs.write_row.Given as goal
 
 abbrev pub invariant-loop-l : goal.invariant-loop-l
-invariant-loop-l l = Risen 1 l.plan l.m l.table (l.l * 4) l.t
+invariant-loop-l g l = Risen g.row.G l.plan l.m l.table (l.l * g.row.N) l.t

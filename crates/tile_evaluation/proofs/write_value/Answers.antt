@@ -18,4 +18,4 @@ pub returns : goal.returns
 returns c =
     let a = c.args in
     let e = four a.g c.requires.0 c.if-g-eq1.false in
-    row_value 4 a.g a.plan.now a.p a.table.now a.o a.out.now _ e c.write_wide_row.ensures
+    row_value 4 a.g a.plan.now a.p a.table.now a.o a.out.now _ e c.write_row-2.ensures
