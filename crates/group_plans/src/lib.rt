@@ -37,7 +37,8 @@ pub fn plan_groups(shape: Shape, plan: &mut [u8], powers: &[u8; 255], logs: &[u8
     }
 }
 
-// Plans the values: for each slot the powers of its point.
+// Plans the values: for each slot the powers of its point. One function for this and plan_groups would take the points as a closure
+// and promise both plans: no plainer.
 pub fn plan_slots(shape: Shape, plan: &mut [u8], powers: &[u8; 255], logs: &[u8; 256])
     requires { Powers 1 powers.now × Logs logs.now × ByteCode shape × (length plan.old ≡ 8192) }
     ensures { (length plan.new ≡ 8192) × SlotsPlanned shape plan.new }
