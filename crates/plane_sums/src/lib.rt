@@ -10,6 +10,8 @@ ghost use Rattle.lanes.specs.Lane.{bit, lane, symbol_at, shown};
 ghost use Rattle.plane_sums.specs.Step.{QuadPlanned, SumsWritten, RowWritten};
 ghost use Rattle.plane_sums.specs.Level.{Bytes, Added, Next, Levelled, Doubled};
 
+use std::array;
+
 // Bit 7 - l of four weights as a number below 16.
 fn nibble(a: u8, b: u8, c: u8, d: u8, l: usize) -> u8
     requires { l < 8 }
@@ -52,7 +54,7 @@ fn double_sums(tiles: &[u8], a: usize, table: &mut [u8], o: usize, h: usize)
     }
 }
 
-// Writes 0 to the 256 places from o on.
+// Writes 0 to the 256 places from o on. tile_strips' clear_tile promises what a tile shows, and is no crate below this one.
 fn clear_tile(table: &mut [u8], o: usize)
     requires { o + 256 ≤ length table.old }
     ensures { Laid (λ i. 0) o 256 table.old table.new }
@@ -77,19 +79,11 @@ fn added(v: &[u8; 8], w: &[u8; 8]) -> [u8; 8]
     requires { Bytes v.now × Bytes w.now }
     ensures { Added v.now w.now result }
 {
-    [
-        v[0] ^ w[0],
-        v[1] ^ w[1],
-        v[2] ^ w[2],
-        v[3] ^ w[3],
-        v[4] ^ w[4],
-        v[5] ^ w[5],
-        v[6] ^ w[6],
-        v[7] ^ w[7],
-    ]
+    array::from_fn(|p| v[p] ^ w[p])
 }
 
 // Doubles every symbol of the lane v and adds those of e: a doubling is a change of names and three sums.
+// Each byte is another sum, so the eight are written out.
 fn level(v: &[u8; 8], e: &[u8; 8]) -> [u8; 8]
     requires { Bytes v.now × Bytes e.now }
     ensures { Next v.now e.now result }
