@@ -2,16 +2,21 @@
 --   xor_bit             bit s of an exclusive or
 --   picks f g h j x b   == the test that f x and g x have at place b what is picked from a first and from a second byte
 --   picked              what passes the test for 256 bytes picks its bits
---   Own, Owns           == entry p, and each entry from p on, picks its bits from the two entries of v that differ from it in bit j at most
+--   Own j v p z         == z picks its bits from the two entries of v that differ from p in bit j at most
+--   own_more            one entry more of a list of them
+--   own_low, own_high   an entry whose place has bit j clear, or set, as the code makes it
 --   all_exchanged       eight entries that pick their bits are exchanged
 --   transposed_is       the three exchanges transpose
-use mathlib.Core.Path.{◌≡◌, refl, ap, ap₂, subst, ◌∙◌}
+use mathlib.Core.Path.{◌≡◌, refl, ap, ap₂, ◌∙◌}
+use mathlib.Core.Logic.{◌≢◌}
 use mathlib.Core.Bool.{Bool, ◌&&◌}
 use mathlib.Core.List.{List, [], ◌∷◌}
-use Prim.Native.Nat.{ℕ, zero, suc, ◌+◌, ◌/◌, ◌%◌, ◌^◌, ◌<◌}
+use Prim.Native.Nat.{ℕ, zero, suc, ◌+◌, ◌*◌, ◌-◌, ◌/◌, ◌%◌, ◌^◌, ◌<◌}
 use native.Mathlib.Omega.{arith}
-use lib.Bits.{bit_xor, xor_shr, xor_mod, xor_zero_r}
-use lib.ListN.{length}
+use lib.Bits.{bit_and, bit_xor, xor_shr, xor_mod, xor_zero_r}
+use borrow.Author.Count.{below_more}
+use lib.ListN.{length, set}
+use lib.Seq.{get_or-set_same, get_or-set_other}
 use lib.Dec.{T, eqb, ltb, eqb→eq, ltb→lt}
 use Rattle.algebra.specs.Sequence.{at, every}
 use Rattle.algebra.proofs.Booleans.{and_left, and_right}
@@ -64,17 +69,73 @@ Own j v p z = Picked (bit j p) j (at v (with_bit j 0 p)) (at v (with_bit j 1 p))
 own_is : (j : ℕ) (v : List ℕ) (p z : ℕ) → Own j v p z → (s : ℕ) → s < 8 → bit s z ≡ bit (exchanged j s p) (at v (exchanged j p s))
 own_is j v p z o s h = o s h ∙ ap (bit (exchanged j s p)) (one_of (λ k. at v (with_bit j k p)) (bit j s) (bit_below j s))
 
-abbrev pub Owns : (j : ℕ) → (v : List ℕ) → (p : ℕ) → (z : List ℕ) → Type 0
-Owns j v p [] = Unit {0}
-Owns j v p (x ∷ z) = Own j v p x × Owns j v (suc p) z
+pub own_more : (j : ℕ) (v z : List ℕ) (p x : ℕ) → p < length z → Own j v p x → ((q : ℕ) → q < p → Own j v q (at z q))
+    → (q : ℕ) → q < p + 1 → Own j v q (at (set z p x) q)
+own_more j v z p x l o h = below_more _ p (λ q k. rw (get_or-set_other z p q x 0 (λ e. omega arith)) (h q k)) (rw (get_or-set_same z p x 0 l) o)
 
-owns_at : (j : ℕ) (v z : List ℕ) (p i q : ℕ) → q ≡ p + i → Owns j v p z → i < length z → Own j v q (at z i)
-owns_at j v [] p i q e o h = absurd (omega arith)
-owns_at j v (x ∷ z) p zero q e o h = let r : p ≡ q = omega arith in subst (λ n. Own j v n x) r o.0
-owns_at j v (x ∷ z) p (suc i) q e o h = owns_at j v z (suc p) i q (omega arith) o.1 (omega arith)
+pub all_exchanged : (j : ℕ) (v z : List ℕ) → ((p : ℕ) → p < 8 → Own j v p (at z p)) → Exchanged j v z
+all_exchanged j v z o p s h l = own_is j v p (at z p) (o p h) s l
 
-pub all_exchanged : (j : ℕ) (v z : List ℕ) → length z ≡ 8 → Owns j v 0 z → Exchanged j v z
-all_exchanged j v z e o p s h l = own_is j v p (at z p) (owns_at j v z 0 p p (omega arith) o (omega arith)) s l
+-- what the code makes of a byte: d is the distance, and clear the places that have bit j clear
+abbrev pub distance : (j : ℕ) → ℕ
+distance j = 1 * 2 ^ j % 18446744073709551616
+
+abbrev pub clear : (j : ℕ) → ℕ
+clear j = at (85 ∷ 51 ∷ 15 ∷ []) j
+
+abbrev pub kept_low : (j x : ℕ) → ℕ
+kept_low j x = bit_and x (clear j)
+
+abbrev pub moved_up : (j y : ℕ) → ℕ
+moved_up j y = bit_and y (clear j) * 2 ^ distance j % 256
+
+abbrev pub moved_down : (j x : ℕ) → ℕ
+moved_down j x = bit_and (x / 2 ^ distance j) (clear j)
+
+abbrev pub kept_high : (j y : ℕ) → ℕ
+kept_high j y = bit_and y (255 - clear j)
+
+low_test : (j : ℕ) → j < 3 → T (every (λ x. every (picks (kept_low j) (moved_up j) 0 j x) 8) 256)
+unfolding every
+low_test zero h = tt
+low_test (suc zero) h = tt
+low_test (suc (suc zero)) h = tt
+low_test (suc (suc (suc j))) h = absurd (omega arith)
+
+high_test : (j : ℕ) → j < 3 → T (every (λ x. every (picks (moved_down j) (kept_high j) 1 j x) 8) 256)
+unfolding every
+high_test zero h = tt
+high_test (suc zero) h = tt
+high_test (suc (suc zero)) h = tt
+high_test (suc (suc (suc j))) h = absurd (omega arith)
+
+low_places : (j p : ℕ) → j < 3 → p < 8 → bit j p ≡ 0 → (with_bit j 0 p ≡ p) × (with_bit j 1 p ≡ p + distance j)
+low_places zero p h l e = (omega arith, omega arith)
+low_places (suc zero) p h l e = (omega arith, omega arith)
+low_places (suc (suc zero)) p h l e = (omega arith, omega arith)
+low_places (suc (suc (suc j))) p h l e = absurd (omega arith)
+
+high_places : (j p : ℕ) → j < 3 → p < 8 → bit j p ≡ 1 → (with_bit j 0 p ≡ p - distance j) × (with_bit j 1 p ≡ p)
+high_places zero p h l e = (omega arith, omega arith)
+high_places (suc zero) p h l e = (omega arith, omega arith)
+high_places (suc (suc zero)) p h l e = (omega arith, omega arith)
+high_places (suc (suc (suc j))) p h l e = absurd (omega arith)
+
+picked_at : (f g : ℕ → ℕ) (h j : ℕ) → T (every (λ x. every (picks f g h j x) 8) 256) → (v : List ℕ) (k m n a c : ℕ)
+    → k ≡ h → m ≡ a → n ≡ c → ((i : ℕ) → at v i < 256) → Picked k j (at v m) (at v n) (bit_xor (f (at v a)) (g (at v c)))
+picked_at f g h j t v k m n a c e q r b = rw (e, q, r) (picked f g h j t (at v a) (at v c) (b a) (b c))
+
+module _ (j p : ℕ) (v : List ℕ) (small : j < 3) (inside : p < 8) (bytes : (i : ℕ) → at v i < 256) where
+  pub own_low : bit j p ≡ 0 → Own j v p (bit_xor (kept_low j (at v p)) (moved_up j (at v (p + distance j))))
+  own_low e =
+      let q = low_places j p small inside e in
+      picked_at (kept_low j) (moved_up j) 0 j (low_test j small) v _ _ _ _ _ e q.0 q.1 bytes
+
+  pub own_high : bit j p ≢ 0 → Own j v p (bit_xor (moved_down j (at v (p - distance j))) (kept_high j (at v p)))
+  own_high n =
+      let e : bit j p ≡ 1 = omega (arith, bit_below j p) in
+      let q = high_places j p small inside e in
+      picked_at (moved_down j) (kept_high j) 1 j (high_test j small) v _ _ _ _ _ e q.0 q.1 bytes
 
 -- the places stay below 8, and three exchanges of bits exchange them
 stays : ℕ → ℕ → ℕ → Bool

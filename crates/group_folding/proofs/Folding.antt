@@ -1,10 +1,10 @@
 -- Coefficients of the groups, place by place. Assumes nothing.
 --   symbol_here, symbol_past        a message symbol, and what is past the message
 --   set_as                          a tile of other symbols that are the same
---   loaded_none, loaded_more        tiles of message strips: none yet, one more
+--   loaded_more                     one more tile of a message strip
 --   coefs_room                      the tiles of the coefficients are fewer than 256
 --   value_same                      the values of polynomials with the same coefficients
---   folded_none, folded_more        a place of the groups: none yet, one more
+--   folded_more                     one group more of a place
 --   place_more                      one place more of every group
 use mathlib.Core.Path.{◌≡◌, refl, sym, ap, ◌∙◌}
 use mathlib.Core.Logic.{◌≢◌, inl}
@@ -45,9 +45,6 @@ pub set_as : (f g : ℕ → ℕ → ℕ) (o : ℕ) (a z : List ℕ) → ((t i : 
 set_as f g o a z e T = record { size = T.size; own = λ t i h k. T.own t i h k ∙ e t i; before = T.before; behind = T.behind }
 
 module _ (s : Shape) (l : ℕ) (ms : List ℕ) (c b : ℕ) where
-  pub loaded_none : (z : List ℕ) → PlaceLoaded s l ms c b 0 z
-  loaded_none z a t i h = absurd (omega arith)
-
   pub loaded_more : (n : ℕ) (a z : List ℕ) → PlaceLoaded s l ms c b n a
       → TileSet (λ t i. message_symbol s l ms (n * s.r + b) (c + (t * 32 + i))) (n * 256) a z → PlaceLoaded s l ms c b (n + 1) z
   loaded_more n a z L T m t i h k j = go (ℕ_discrete m n)
@@ -77,9 +74,6 @@ other_tile x n v q m a z W e t i h k = kept_tile (m * 256) a z (λ p f g. go p f
     go p f g (no y) = W.behind p (omega arith)
 
 module _ (s : Shape) (b : ℕ) (v : ℕ → ℕ → ℕ → ℕ) where
-  pub folded_none : (a : List ℕ) → PlaceFolded s b 0 v a a
-  folded_none a = record { size = refl; own = λ j t i h. absurd (omega arith); other = λ m t i f h k. refl }
-
   pub folded_more : (n : ℕ) (w : ℕ → ℕ → ℕ → ℕ) (a y z : List ℕ) → 1 ≤ s.r → ((e t i : ℕ) → w e t i ≡ v e t i) → PlaceFolded s b n v a y
       → ValueWritten (level_at s n) (blocks s) w ((n * s.r + b) * 256) y z → PlaceFolded s b (n + 1) v a z
   folded_more n w a y z r e P W =

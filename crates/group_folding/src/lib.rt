@@ -38,10 +38,8 @@ fn load_place(shape: Shape, messages: &[u8], l: usize, c: usize, b: usize, tiles
 {
     let r = shape.r as usize;
     let blocks = group_plans::blocks_of(shape);
-    let mut a: usize = 0;
-    while a < blocks {
+    for a in 0..blocks {
         load_strip(shape, messages, l, c, a * r + b, tiles, a * 256);
-        a += 1;
     }
 }
 
@@ -52,11 +50,9 @@ fn fold_place(shape: Shape, b: usize, plan: &[u8], table: &[u8], coefs: &mut [u8
 {
     let groups = layout::groups_of(shape) as usize;
     let g = group_plans::tables_for(group_plans::blocks_of(shape));
-    let mut j: usize = 0;
-    while j < groups {
+    for j in 0..groups {
         let o = (j * shape.r as usize + b) * 256;
         tile_evaluation::write_value(g, plan, j * 32, table, coefs, o);
-        j += 1;
     }
 }
 
@@ -76,11 +72,9 @@ pub fn fold(
 {
     let g = group_plans::tables_for(group_plans::blocks_of(shape));
     let r = shape.r as usize;
-    let mut b: usize = 0;
-    while b < r {
+    for b in 0..r {
         load_place(shape, messages, l, c, b, tiles);
         tile_evaluation::write_tables(tiles, 0, g, table);
         fold_place(shape, b, plan, table, coefs);
-        b += 1;
     }
 }

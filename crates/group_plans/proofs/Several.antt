@@ -1,6 +1,6 @@
 -- Plans of several points, 32 places each. Assumes nothing.
 --   Several f n g j z    == from place 32 i on, i below j, there is the plan of the first n powers of f i
---   several_none, several_more, several_all
+--   several_more, several_all
 --   tables_least, tables_most    there is a table; there are at most four
 --   blocks_hold                  the blocks hold all message symbols
 use mathlib.Core.Path.{◌≡◌, ◌∙◌}
@@ -18,9 +18,6 @@ use Rattle.group_plans.specs.Plan.{tables_for}
 pub record Several (f : ℕ → ℕ) (n g j : ℕ) (z : List ℕ) : Type 0 where
   pub size : length z ≡ 8192
   pub own : (i : ℕ) → i < j → PlanAt (f i) n g z (i * 32)
-
-pub several_none : (f : ℕ → ℕ) (n g : ℕ) (a : List ℕ) → length a ≡ 8192 → Several f n g 0 a
-several_none f n g a e = record { size = e; own = λ i h. absurd (omega arith) }
 
 pub several_more : (f : ℕ → ℕ) (n g j x : ℕ) (a z : List ℕ) → g ≤ 4 → x ≡ f j → PowersPlanned x n g (j * 32) a z → Several f n g j a → Several f n g (j + 1) z
 several_more f n g j x a z b e P S = record { size = P.size ∙ S.size; own = λ i h. go i h (ℕ_discrete i j) }

@@ -31,25 +31,22 @@ pub fn plan_groups(shape: Shape, plan: &mut [u8], powers: &[u8; 255], logs: &[u8
     let groups = layout::groups_of(shape);
     let blocks = blocks_of(shape);
     let g = tables_for(blocks);
-    let mut j: u32 = 0;
-    while j < groups {
+    for j in 0..groups {
         let y = layout::group_power(shape, j, powers);
         tile_evaluation::plan_powers(y, blocks, g, plan, j as usize * 32, powers, logs);
-        j += 1;
     }
 }
 
-// Plans the values: for each slot the powers of its point.
+// Plans the values: for each slot the powers of its point. One function for this and plan_groups would take the points as a closure
+// and promise both plans: no plainer.
 pub fn plan_slots(shape: Shape, plan: &mut [u8], powers: &[u8; 255], logs: &[u8; 256])
     requires { Powers 1 powers.now × Logs logs.now × ByteCode shape × (length plan.old ≡ 8192) }
     ensures { (length plan.new ≡ 8192) × SlotsPlanned shape plan.new }
 {
     let r = shape.r as usize;
     let g = tables_for(r);
-    let mut p: u32 = 0;
-    while p < shape.n {
+    for p in 0..shape.n {
         let x = layout::point_of(shape, p, powers);
         tile_evaluation::plan_powers(x, r, g, plan, p as usize * 32, powers, logs);
-        p += 1;
     }
 }

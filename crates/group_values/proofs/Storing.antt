@@ -1,11 +1,10 @@
 -- Values of the groups' polynomials stored to strips. Assumes nothing.
 --   kept_strip                a tile stored to a strip: other strips, and its columns before, are unchanged
 --   slot_valued               the value at a slot's point is that of its group's coefficients
---   group_none, group_more    the members of a group stored one by one
---   groups_none, groups_more  the groups stored one by one
---   tables_most               one or four tables are at most four
+--   group_more                the members of a group stored one by one
+--   groups_more               the groups stored one by one
 --   plan_room, coefs_room     the plan of a slot and the coefficients of a group end inside their slices
-use mathlib.Core.Path.{◌≡◌, refl, sym, ap, ◌∙◌}
+use mathlib.Core.Path.{◌≡◌, sym, ap, ◌∙◌}
 use mathlib.Core.Logic.{◌≢◌, ◌⊎◌, inl, inr}
 use mathlib.Core.List.{List}
 use Prim.Native.Nat.{ℕ, ◌+◌, ◌*◌, ◌≤◌, ◌<◌}
@@ -24,6 +23,7 @@ use Rattle.code.specs.Laws.{Placed}
 use Rattle.code.proofs.Places.{slot_room, member_below, slot_group_member, group_slot_at, slot_at_injective}
 use Rattle.code.proofs.Bounds.{size_is, room_byte, n_most, r_most}
 use Rattle.tile_evaluation.specs.Step.{value}
+use Rattle.group_plans.proofs.Several.{tables_most}
 use Rattle.group_values.specs.Value.{slot_value, GroupStored, GroupsStored}
 
 kept_strip : (xs : List ℕ) (o l q c : ℕ) (a z : List ℕ) → c < l → Stored xs o l q c a z → (p d : ℕ) → d < l → (d < c) ⊎ (p ≢ q)
@@ -49,9 +49,6 @@ slot_valued s xs p j t i g =
     place e = omega (arith, ap (λ n. n * s.r) g)
 
 module _ (s : Shape) (P : Placed s) (l c : ℕ) (b : c < l) (v : ℕ → ℕ → ℕ → ℕ) where
-  pub group_none : (j : ℕ) (a : List ℕ) → GroupStored s l c j 0 v a a
-  group_none j a = record { size = refl; own = λ m t i h. absurd (omega arith); other = λ p d h k. refl }
-
   pub group_more : (j n q : ℕ) (xs a y z : List ℕ) → q ≡ slot_at s j n → GroupStored s l c j n v a y → Stored xs 0 l q c y z
       → ((t i : ℕ) → t < 8 → i < 32 → shown xs 0 t i ≡ slot_value s v q t i)
       → GroupStored s l c j (n + 1) v a z
@@ -74,9 +71,6 @@ module _ (s : Shape) (P : Placed s) (l c : ℕ) (b : c < l) (v : ℕ → ℕ →
       other p d h (inl k) = kept p d h (inl k) ∙ G.other p d h (inl k)
       other p d h (inr k) = kept p d h (inr (λ f. k n (omega arith) (f ∙ r))) ∙ G.other p d h (inr (λ m f. k m (omega arith)))
 
-  pub groups_none : (a : List ℕ) → GroupsStored s l c 0 v a a
-  groups_none a = record { size = refl; own = λ p t i h k. absurd (omega arith); earlier = λ p d h k. refl }
-
   pub groups_more : (j : ℕ) (a y z : List ℕ) → j < groups s → GroupsStored s l c j v a y → GroupStored s l c j (size s) v y z
       → GroupsStored s l c (j + 1) v a z
   groups_more j a y z g G S =
@@ -95,10 +89,6 @@ module _ (s : Shape) (P : Placed s) (l c : ℕ) (b : c < l) (v : ℕ → ℕ →
           let o : slot_at s j (member s p) ≡ p = ap (λ y. slot_at s y (member s p)) (sym e) ∙ slot_group_member s P p in
           ap (λ y. at z (y * l + (c + (t * 32 + i)))) (sym o) ∙ S.own (member s p) t i (member_below s P p (slot_room s P p h)) f w x
           ∙ ap (λ y. slot_value s v y t i) o
-
-pub tables_most : (g : ℕ) → (g ≡ 1) ⊎ (g ≡ 4) → g ≤ 4
-tables_most g (inl e) = omega arith
-tables_most g (inr e) = omega arith
 
 module _ (s : Shape) (P : Placed s) (g : ℕ) (h : (g ≡ 1) ⊎ (g ≡ 4)) where
   pub plan_room : (p : ℕ) → p < s.n → p * 32 + g * 8 ≤ 8192

@@ -26,12 +26,10 @@ fn write_group(
 {
     let size = layout::size_of(shape);
     let g = group_plans::tables_for(shape.r as usize);
-    let mut i: u32 = 0;
-    while i < size {
+    for i in 0..size {
         let p = layout::slot_at(shape, group, i) as usize;
         tile_evaluation::write_value(g, plan, p * 32, table, tile, 0);
         tile_strips::store(tile, 0, codewords, l, p, c);
-        i += 1;
     }
 }
 
@@ -52,10 +50,8 @@ pub fn write_groups(
     let groups = layout::groups_of(shape);
     let r = shape.r as usize;
     let g = group_plans::tables_for(r);
-    let mut j: u32 = 0;
-    while j < groups {
+    for j in 0..groups {
         tile_evaluation::write_tables(coefs, j as usize * r * 256, g, table);
         write_group(shape, j, plan, table, tile, l, c, codewords);
-        j += 1;
     }
 }

@@ -90,19 +90,11 @@ module _ (v e : List ℕ) (small : Bytes v) (small_too : Bytes e) where
       let d = xor_is 8 (at v p) (at v 7) (small p h) (small 7 (omega arith)) in
       ap (λ n. bit_xor n (at e q)) d ∙ xor_is 8 (at v p ⊕ at v 7) (at e q) (⊕_below (at v p) (at v 7)) (small_too q l)
 
-  abbrev sum_lane : List ℕ
-  sum_lane =
-      bit_xor (at v 0) (at e 0) ∷ bit_xor (at v 1) (at e 1) ∷ bit_xor (at v 2) (at e 2) ∷ bit_xor (at v 3) (at e 3)
-      ∷ bit_xor (at v 4) (at e 4) ∷ bit_xor (at v 5) (at e 5) ∷ bit_xor (at v 6) (at e 6) ∷ bit_xor (at v 7) (at e 7) ∷ []
-
-  pub added_lane : Added v e sum_lane
-  added_lane = record { bytes = λ p h. rw (entry p h) (⊕_below (at v p) (at e p)); own = λ s h. symbol_sum v e sum_lane s h entry }
+  pub added_lane : (z : List ℕ) → ((p : ℕ) → p < 8 → at z p ≡ bit_xor (at v p) (at e p)) → Added v e z
+  added_lane z q = record { bytes = λ p h. rw (entry p h) (⊕_below (at v p) (at e p)); own = λ s h. symbol_sum v e z s h entry }
     where
-      entry : (p : ℕ) → p < 8 → at sum_lane p ≡ at v p ⊕ at e p
-      entry =
-          eight (λ p. at sum_lane p ≡ at v p ⊕ at e p) (byte_sum 0 0 (omega arith) (omega arith)) (byte_sum 1 1 (omega arith) (omega arith))
-          (byte_sum 2 2 (omega arith) (omega arith)) (byte_sum 3 3 (omega arith) (omega arith)) (byte_sum 4 4 (omega arith) (omega arith))
-          (byte_sum 5 5 (omega arith) (omega arith)) (byte_sum 6 6 (omega arith) (omega arith)) (byte_sum 7 7 (omega arith) (omega arith))
+      entry : (p : ℕ) → p < 8 → at z p ≡ at v p ⊕ at e p
+      entry p h = q p h ∙ byte_sum p p h h
 
   abbrev level_lane : List ℕ
   level_lane =

@@ -1,27 +1,31 @@
 -- Levels of a tile, lane by lane. Assumes nothing.
 --   folded_none, folded_more, folded_add     no level, one level more, levels after levels
 --   within                                   an entry's lanes are within its table
---   one_entry, four_entries                  the sum of the entries of a level, of one table and of four
+--   SumLane ps m ts i n z                    == the lane z has the sums of lane i of the entries of n tables
+--   sum_lane_none, sum_lane_more
+--   level_entries                            the entries of a level
 --   Levelling f n a z                        == the tile a has become z: the lanes below n have the symbols f, the others are unchanged
 --   Raised g k .. a i v                      == the lane v has the symbols of lane i of the tile a after k levels
---   levelling_none, levelling_more, levelling_all, raised_none, raised_more
+--   levelling_more, raised_none, raised_more
 use mathlib.Core.Path.{◌≡◌, refl, sym, ap, ap₂, ◌∙◌}
 use mathlib.Core.Logic.{◌≢◌}
 use mathlib.Core.List.{List}
 use Prim.Native.Nat.{ℕ, zero, suc, ◌+◌, ◌*◌, ◌≤◌, ◌<◌}
 use native.Mathlib.Nat.{zero-add, add-zero, add-suc, le_refl}
+use Rattle.std.proofs.Common.{add-one}
 use native.Mathlib.Decide.{ℕ_discrete}
 use native.Mathlib.Omega.{arith}
-use lib.ListN.{length}
+use lib.ListN.{length, replicate}
 use Rattle.algebra.specs.Sequence.{at}
+use Rattle.algebra.proofs.At.{at_zeros}
+use Rattle.algebra.proofs.Strides.{row_step}
 use Rattle.field.specs.Field.{doubled}
-use Rattle.field.proofs.Xor.{xor_assoc}
-use Rattle.field.proofs.Byte.{◌⊕◌, zero_⊕}
+use Rattle.field.proofs.Byte.{◌⊕◌}
 use Rattle.tiles.specs.Step.{sum}
-use Rattle.tiles.proofs.Sum.{sum_none, sum_more}
+use Rattle.tiles.proofs.Sum.{sum_none, sum_more, sum_same}
 use Rattle.lanes.specs.Lane.{lane, symbol_at, shown, PutLane}
-use Rattle.plane_sums.specs.Level.{Bytes, Next, folded, entries, Levelled}
-use Rattle.plane_sums.proofs.Shown.{lane_at, shown_below, shown_same, put_symbol, put_other}
+use Rattle.plane_sums.specs.Level.{Bytes, Added, Next, folded, entries}
+use Rattle.plane_sums.proofs.Shown.{lane_at, shown_same, symbol_zero, put_symbol, put_other}
 
 pub folded_none : (e : ℕ → ℕ) (x : ℕ) → folded e 0 x ≡ x
 unfolding folded
@@ -37,45 +41,41 @@ folded_add e d m (suc n) x h =
     folded_more d n (folded e m x) ∙ ap₂ (λ a b. doubled a ⊕ b) (folded_add e d m n x h) (h n)
     ∙ sym (ap (λ k. folded e k x) (add-suc m n) ∙ folded_more e (m + n) x)
 
--- the entry of table h at level l of g tables
-entry_at : (g : ℕ) (ps : List ℕ) (m : ℕ) (ts : List ℕ) (s i l h q a : ℕ) → q ≡ m + h + l * g → a ≡ at ps q * 256 + h * 4096
-    → shown ts (at ps (m + h + l * g) * 256 + h * 4096) s i ≡ shown ts a s i
-entry_at g ps m ts s i l h q a e f = ap (λ n. shown ts n s i) (ap (λ n. at ps n * 256 + h * 4096) (sym e) ∙ sym f)
+pub within : (x h i g n : ℕ) → x < 16 → h < g → i < 32 → g * 4096 ≤ n → x * 256 + h * 4096 + i + 224 < n
+within x h i g n b k l m = omega (arith, row_step h g 4096 k)
 
-pub within : (ps : List ℕ) (q a h i n : ℕ) → at ps q < 16 → a ≡ at ps q * 256 + h * 4096 → i < 32 → h * 4096 + 4096 ≤ n → a + i + 224 < n
-within ps q a h i n b e l k = omega arith
+-- lane i of the sum of the entries of n tables
+pub record SumLane (ps : List ℕ) (m : ℕ) (ts : List ℕ) (i n : ℕ) (z : List ℕ) : Type 0 where
+  pub bytes : Bytes z
+  pub own : (s : ℕ) → s < 8 → symbol_at z s ≡ sum 0 (λ h. shown ts (at ps (m + h) * 256 + h * 4096) s i) n
 
-module _ (ps : List ℕ) (m : ℕ) (ts : List ℕ) (s i l : ℕ) where
-  pub one_entry : (q a : ℕ) → q ≡ m + l → a ≡ at ps q * 256 + 0 * 4096 → shown ts a s i ≡ entries 1 ps m ts s i l
-  one_entry q a e f =
-      let F : ℕ → ℕ = λ h. shown ts (at ps (m + h + l * 1) * 256 + h * 4096) s i in
-      let x : shown ts (at ps (m + 0 + l * 1) * 256 + 0 * 4096) s i ≡ shown ts a s i = entry_at 1 ps m ts s i l 0 q a (omega arith) f in
-      sym x ∙ sym (zero_⊕ (shown_below ts (at ps (m + 0 + l * 1) * 256 + 0 * 4096) s i))
-      ∙ ap (λ n. n ⊕ F 0) (sym (sum_none 0 F)) ∙ sym (sum_more 0 F 0)
+module _ (ps : List ℕ) (m : ℕ) (ts : List ℕ) (i : ℕ) where
+  pub sum_lane_none : SumLane ps m ts i 0 (replicate 8 0)
+  sum_lane_none =
+      record {
+        bytes = λ p h. rw (at_zeros 8 p) (omega arith);
+        own = λ s h. symbol_zero 8 s ∙ sym (sum_none 0 (λ h. shown ts (at ps (m + h) * 256 + h * 4096) s i));
+      }
 
-  pub four_entries : (q r t u a b c d : ℕ) → q ≡ m + l * 4 → r ≡ q + 1 → t ≡ q + 2 → u ≡ q + 3
-      → a ≡ at ps q * 256 + 0 * 4096 → b ≡ at ps r * 256 + 1 * 4096 → c ≡ at ps t * 256 + 2 * 4096 → d ≡ at ps u * 256 + 3 * 4096
-      → (shown ts a s i ⊕ shown ts b s i) ⊕ (shown ts c s i ⊕ shown ts d s i) ≡ entries 4 ps m ts s i l
-  four_entries q r t u a b c d eq er et eu ea eb ec ed =
-      let F : ℕ → ℕ = λ h. shown ts (at ps (m + h + l * 4) * 256 + h * 4096) s i in
-      let first : sum 0 F 1 ≡ F 0 = sum_more 0 F 0 ∙ ap (λ n. n ⊕ F 0) (sum_none 0 F) ∙ zero_⊕ (shown_below ts (at ps (m + 0 + l * 4) * 256 + 0 * 4096) s i) in
-      let xa : F 0 ≡ shown ts a s i = entry_at 4 ps m ts s i l 0 q a (omega arith) ea in
-      let xb : F 1 ≡ shown ts b s i = entry_at 4 ps m ts s i l 1 r b (omega arith) eb in
-      let xc : F 2 ≡ shown ts c s i = entry_at 4 ps m ts s i l 2 t c (omega arith) ec in
-      let xd : F 3 ≡ shown ts d s i = entry_at 4 ps m ts s i l 3 u d (omega arith) ed in
-      sym
-      (sum_more 0 F 3
-      ∙ ap (λ n. n ⊕ F 3) (sum_more 0 F 2 ∙ ap (λ n. n ⊕ F 2) (sum_more 0 F 1 ∙ ap (λ n. n ⊕ F 1) first))
-      ∙ xor_assoc 8 (F 0 ⊕ F 1) (F 2) (F 3) ∙ ap₂ ◌⊕◌ (ap₂ ◌⊕◌ xa xb) (ap₂ ◌⊕◌ xc xd))
+  pub sum_lane_more : (n : ℕ) (a e z : List ℕ) → e ≡ lane ts (at ps (m + n) * 256 + n * 4096 + i) → Added a e z → SumLane ps m ts i n a → SumLane ps m ts i (n + 1) z
+  sum_lane_more n a e z q A S =
+      record {
+        bytes = A.bytes;
+        own = λ s h. let F : ℕ → ℕ = λ h. shown ts (at ps (m + h) * 256 + h * 4096) s i in
+            A.own s h ∙ ap₂ ◌⊕◌ (S.own s h) (ap (λ l. symbol_at l s) q) ∙ sym (rw add-one (sum_more 0 F n));
+      }
+
+  -- the entries of level k
+  pub level_entries : (g k q s : ℕ) → q ≡ m + k * g → sum 0 (λ h. shown ts (at ps (q + h) * 256 + h * 4096) s i) g ≡ entries g ps m ts s i k
+  level_entries g k q s e =
+      sum_same 0 (λ h. shown ts (at ps (q + h) * 256 + h * 4096) s i) (λ h. shown ts (at ps (m + h + k * g) * 256 + h * 4096) s i) g
+      (λ h b. let r : q + h ≡ m + h + k * g = omega arith in ap (λ n. shown ts (at ps n * 256 + h * 4096) s i) r)
 
 pub record Levelling (f : ℕ → ℕ → ℕ) (n : ℕ) (a z : List ℕ) : Type 0 where
   pub size : length z ≡ length a
   pub bytes : (i : ℕ) → i < 32 → Bytes (lane z i)
   pub done : (s i : ℕ) → s < 8 → i < n → i < 32 → shown z 0 s i ≡ f s i
   pub rest : (s i : ℕ) → n ≤ i → i < 32 → shown z 0 s i ≡ shown a 0 s i
-
-pub levelling_none : (f : ℕ → ℕ → ℕ) (a : List ℕ) → ((i : ℕ) → i < 32 → Bytes (lane a i)) → Levelling f 0 a a
-levelling_none f a b = record { size = refl; bytes = b; done = λ s i h l k. absurd (omega arith); rest = λ s i h l. refl }
 
 -- lane i of the tile a after k levels
 pub record Raised (g k : ℕ) (ps : List ℕ) (m : ℕ) (ts a : List ℕ) (i : ℕ) (v : List ℕ) : Type 0 where
@@ -121,7 +121,3 @@ module _ (f : ℕ → ℕ → ℕ) (n : ℕ) (v a y z : List ℕ) (h : n < 32) (
       go : (s i : ℕ) → s < 8 → i < n + 1 → i < 32 → Dec (i ≡ n) → shown z 0 s i ≡ f s i
       go s i l k g (yes q) = ap (λ o. symbol_at (lane z o) s) (zero-add i ∙ q) ∙ put_symbol v n y z s P ∙ e s l ∙ ap (f s) (sym q)
       go s i l k g (no q) = kept s i g q ∙ L.done s i l (omega arith) g
-
-pub levelling_all : (g k : ℕ) (ps : List ℕ) (m : ℕ) (ts a z : List ℕ) (n : ℕ) → 32 ≤ n
-    → Levelling (λ s i. folded (entries g ps m ts s i) k (shown a 0 s i)) n a z → Levelled g k ps m ts a z
-levelling_all g k ps m ts a z n h L = record { size = L.size; bytes = L.bytes; own = λ s i l b. L.done s i l (omega arith) b }

@@ -1,8 +1,8 @@
 -- A plan of four weights, one nibble a turn. Assumes nothing.
 --   Planning w m d n a z    == a has become z: the first n nibbles are written, all else unchanged
---   planning_none, planning_more, planning_all
+--   planning_more
 --   step_below              the place of a nibble is at most that of the last
-use mathlib.Core.Path.{◌≡◌, refl, ◌∙◌}
+use mathlib.Core.Path.{◌≡◌, ◌∙◌}
 use mathlib.Core.Logic.{◌≢◌}
 use mathlib.Core.List.{List}
 use Prim.Native.Nat.{ℕ, ◌+◌, ◌*◌, ◌≤◌, ◌<◌}
@@ -12,7 +12,7 @@ use lib.ListN.{length, set, length-set}
 use lib.Seq.{get_or-set_same, get_or-set_other}
 use Rattle.algebra.specs.Sequence.{at}
 use Rattle.algebra.proofs.Strides.{row_step}
-use Rattle.plane_sums.specs.Step.{nibble, QuadPlanned}
+use Rattle.plane_sums.specs.Step.{nibble}
 
 pub step_below : (l d : ℕ) → l < 8 → l * d ≤ 7 * d
 step_below l d h = omega (arith, row_step l 8 d h)
@@ -21,9 +21,6 @@ pub record Planning (w : ℕ → ℕ) (m d n : ℕ) (a z : List ℕ) : Type 0 wh
   pub size : length z ≡ length a
   pub own : (l : ℕ) → l < n → at z (m + l * d) ≡ nibble l w
   pub other : (x : ℕ) → ((l : ℕ) → l < n → x ≢ m + l * d) → at z x ≡ at a x
-
-pub planning_none : (w : ℕ → ℕ) (m d : ℕ) (a : List ℕ) → Planning w m d 0 a a
-planning_none w m d a = record { size = refl; own = λ l h. absurd (omega arith); other = λ x h. refl }
 
 pub planning_more : (w : ℕ → ℕ) (m d n y : ℕ) (a z : List ℕ) → 1 ≤ d → m + n * d < length z → y ≡ nibble n w → Planning w m d n a z
     → Planning w m d (n + 1) a (set z (m + n * d) y)
@@ -39,7 +36,3 @@ planning_more w m d n y a z b h e P =
     go l k (no q) =
         let s : l < n = omega arith in
         get_or-set_other z (m + n * d) (m + l * d) y 0 (λ r. omega (arith, row_step l n d s)) ∙ P.own l s
-
-pub planning_all : (w : ℕ → ℕ) (m d n : ℕ) (a z : List ℕ) → n ≡ 8 → Planning w m d n a z → QuadPlanned w m d a z
-planning_all w m d n a z e P =
-    record { size = P.size; own = λ l h. P.own l (omega arith); other = λ x f. P.other x (λ l h. f l (omega arith)) }

@@ -1,6 +1,6 @@
 -- Tables of sums. Assumes nothing.
 --   Doubling xs m o h y a z   == a has become z: y entries from h on are written
---   doubling_none, doubling_more, doubling_all
+--   doubling_more
 --   Table xs m o n z          == entry e of the 2^n tiles from place o on shows the sums of the first n tiles of xs from m on that e chooses
 --   table_none, table_more, sums_written
 use mathlib.Core.Path.{◌≡◌, refl, sym, ap, ap₂, ◌∙◌}
@@ -44,9 +44,6 @@ pub record Doubling (xs : List ℕ) (m o h y : ℕ) (a z : List ℕ) : Type 0 wh
   pub before : (x : ℕ) → x < o + h * 256 → at z x ≡ at a x
   pub behind : (x : ℕ) → o + (h + y) * 256 ≤ x → at z x ≡ at a x
 
-pub doubling_none : (xs : List ℕ) (m o h : ℕ) (a : List ℕ) → Doubling xs m o h 0 a a
-doubling_none xs m o h a = record { size = refl; own = λ x s i l k b. absurd (omega arith); before = λ x l. refl; behind = λ x l. refl }
-
 pub doubling_more : (xs : List ℕ) (m o h y : ℕ) (a b z : List ℕ) → y < h
     → Laid (λ i. xor_from 8 (at xs (m + i)) (at b (o + y * 256 + i))) (o + (h + y) * 256) 256 b z
     → Doubling xs m o h y a b → Doubling xs m o h (y + 1) a z
@@ -65,10 +62,6 @@ doubling_more xs m o h y a b z k L D =
         ∙ ap (λ n. n ⊕ shown xs m s i) (kept_shown a b (o + y * 256) s i q (λ p u v. D.before p (omega arith))))
     go x s i l r q (no e) =
         kept_shown b z (o + (h + x) * 256) s i q (λ p u v. L.written.before p (omega arith)) ∙ D.own x s i (omega arith) r q
-
-pub doubling_all : (xs : List ℕ) (m o h y : ℕ) (a z : List ℕ) → y ≡ h → Doubling xs m o h y a z → Doubled xs m o h a z
-doubling_all xs m o h y a z e D =
-    record { size = D.size; own = λ x s i l. D.own x s i (omega arith); before = D.before; behind = λ x l. D.behind x (omega arith) }
 
 abbrev Table : (xs : List ℕ) → (m o n : ℕ) → (z : List ℕ) → Type 0
 Table xs m o n z = (e s i : ℕ) → e < 2 ^ n → s < 8 → i < 32 → shown z (o + e * 256) s i ≡ sum 0 (λ x. pick (bit x e) (shown xs (m + x * 256) s i)) n

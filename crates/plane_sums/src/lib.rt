@@ -1,13 +1,16 @@
 // Sums of weight times symbol over tiles of bit planes: tables of the sixteen sums of four tiles, and Horner's rule over the bits of the weights.
 #![tactic(auto)]
 
-ghost use Rattle.std.specs.Prelude.{◌≡◌, ℕ, ◌+◌, ◌*◌, ◌-◌, ◌≤◌, ◌<◌, length};
+ghost use Rattle.std.specs.Prelude.{◌≡◌, ℕ, ◌+◌, ◌*◌, ◌-◌, ◌%◌, ◌≤◌, ◌<◌, length};
 ghost use Rattle.algebra.specs.Sequence.{at};
 ghost use Rattle.algebra.specs.Writing.{Laid};
 ghost use Rattle.field.specs.Field.{xor_from};
-ghost use Rattle.lanes.specs.Lane.{bit, lane};
+ghost use Rattle.tiles.specs.Step.{sum};
+ghost use Rattle.lanes.specs.Lane.{bit, lane, symbol_at, shown};
 ghost use Rattle.plane_sums.specs.Step.{QuadPlanned, SumsWritten, RowWritten};
-ghost use Rattle.plane_sums.specs.Level.{Bytes, Added, Next, FourAdded, Levelled, Doubled};
+ghost use Rattle.plane_sums.specs.Level.{Bytes, Added, Next, Levelled, Doubled};
+
+use std::array;
 
 // Bit 7 - l of four weights as a number below 16.
 fn nibble(a: u8, b: u8, c: u8, d: u8, l: usize) -> u8
@@ -26,10 +29,8 @@ pub fn plan_quad(weights: &[u8], x: usize, plan: &mut [u8], m: usize, d: usize)
     let b = weights[x + 1];
     let c = weights[x + 2];
     let e = weights[x + 3];
-    let mut l: usize = 0;
-    while l < 8 {
+    for l in 0..8usize {
         plan[m + l * d] = nibble(a, b, c, e, l);
-        l += 1;
     }
 }
 
@@ -38,10 +39,8 @@ fn add_to(tiles: &[u8], a: usize, table: &mut [u8], b: usize, o: usize)
     requires { (a + 256 ≤ length tiles.now) × (b + 256 ≤ o) × (o + 256 ≤ length table.old) }
     ensures { Laid (λ i. xor_from 8 (at tiles.now (a + i)) (at table.old (b + i))) o 256 table.old table.new }
 {
-    let mut i: usize = 0;
-    while i < 256 {
+    for i in 0..256usize {
         table[o + i] = tiles[a + i] ^ table[b + i];
-        i += 1;
     }
 }
 
@@ -50,23 +49,17 @@ fn double_sums(tiles: &[u8], a: usize, table: &mut [u8], o: usize, h: usize)
     requires { (a + 256 ≤ length tiles.now) × (h ≤ 8) × (o + (h + h) * 256 ≤ length table.old) }
     ensures { Doubled tiles.now a o h table.old table.new }
 {
-    let mut y: usize = 0;
-    while y < h {
+    for y in 0..h {
         add_to(tiles, a, table, o + y * 256, o + (h + y) * 256);
-        y += 1;
     }
 }
 
-// Writes 0 to the 256 places from o on.
+// Writes 0 to the 256 places from o on. tile_strips' clear_tile promises what a tile shows, and is no crate below this one.
 fn clear_tile(table: &mut [u8], o: usize)
     requires { o + 256 ≤ length table.old }
     ensures { Laid (λ i. 0) o 256 table.old table.new }
 {
-    let mut i: usize = 0;
-    while i < 256 {
-        table[o + i] = 0;
-        i += 1;
-    }
+    table[o..o + 256].fill(0);
 }
 
 // Writes the table of the sixteen sums of the four tiles from place m on.
@@ -86,19 +79,11 @@ fn added(v: &[u8; 8], w: &[u8; 8]) -> [u8; 8]
     requires { Bytes v.now × Bytes w.now }
     ensures { Added v.now w.now result }
 {
-    [
-        v[0] ^ w[0],
-        v[1] ^ w[1],
-        v[2] ^ w[2],
-        v[3] ^ w[3],
-        v[4] ^ w[4],
-        v[5] ^ w[5],
-        v[6] ^ w[6],
-        v[7] ^ w[7],
-    ]
+    array::from_fn(|p| v[p] ^ w[p])
 }
 
 // Doubles every symbol of the lane v and adds those of e: a doubling is a change of names and three sums.
+// Each byte is another sum, so the eight are written out.
 fn level(v: &[u8; 8], e: &[u8; 8]) -> [u8; 8]
     requires { Bytes v.now × Bytes e.now }
     ensures { Next v.now e.now result }
@@ -115,102 +100,48 @@ fn level(v: &[u8; 8], e: &[u8; 8]) -> [u8; 8]
     ]
 }
 
-// The sum of the lanes at a, b, c and d.
-fn four_lanes(table: &[u8], a: usize, b: usize, c: usize, d: usize) -> [u8; 8]
-    requires { (a + 224 < length table.now) × (b + 224 < length table.now) × (c + 224 < length table.now) × (d + 224 < length table.now) }
-    ensures { FourAdded table.now a b c d result }
+// The sum of lane i of the entries that the plan has from place m on, one of each of G tables.
+fn entry_lane<const G: usize>(table: &[u8], plan: &[u8], m: usize, i: usize) -> [u8; 8]
+    requires { (m + G ≤ length plan.now) × ((h : ℕ) → h < G → at plan.now (m + h) < 16) × (G * 4096 ≤ length table.now) × (i < 32) }
+    ensures { Bytes result × ((s : ℕ) → s < 8 → symbol_at result s ≡ sum 0 (λ h. shown table.now (at plan.now (m + h) * 256 + h * 4096) s i) G) }
 {
-    let v = lanes::lane_of(table, a);
-    let w = lanes::lane_of(table, b);
-    let x = lanes::lane_of(table, c);
-    let y = lanes::lane_of(table, d);
-    let vw = added(&v, &w);
-    let xy = added(&x, &y);
-    added(&vw, &xy)
+    let mut z = [0u8; 8];
+    for h in 0..G {
+        let e = lanes::lane_of(table, plan[m + h] as usize * 256 + h * 4096 + i);
+        z = added(&z, &e);
+    }
+    z
 }
 
-// The place of the entry that the plan has at m, in table h.
-fn entry(plan: &[u8], m: usize, h: usize) -> usize
-    requires { (m < length plan.now) × (h < 4) }
-    ensures { result ≡ at plan.now m * 256 + h * 4096 }
+// N levels of the tile t: the sums of the entries of G tables that the plan has from place m on.
+fn rise<const G: usize, const N: usize>(t: &mut [u8; 256], table: &[u8], plan: &[u8], m: usize)
+    requires { (length t.old ≡ 256) × ((i : ℕ) → i < 32 → Bytes (lane t.old i)) × (m + N * G ≤ length plan.now) × ((l : ℕ) → l < N * G → at plan.now (m + l) < 16) × (G * 4096 ≤ length table.now) }
+    ensures { Levelled G N plan.now m table.now t.old t.new }
 {
-    plan[m] as usize * 256 + h * 4096
-}
-
-// Four levels of the tile t: the entries of a table that the plan has from place m on.
-fn four_levels(t: &mut [u8; 256], table: &[u8], plan: &[u8], m: usize)
-    requires { (length t.old ≡ 256) × ((i : ℕ) → i < 32 → Bytes (lane t.old i)) × (m + 4 ≤ length plan.now) × ((l : ℕ) → l < 4 → at plan.now (m + l) < 16) × (4096 ≤ length table.now) }
-    ensures { Levelled 1 4 plan.now m table.now t.old t.new }
-{
-    let a = entry(plan, m, 0);
-    let b = entry(plan, m + 1, 0);
-    let c = entry(plan, m + 2, 0);
-    let d = entry(plan, m + 3, 0);
-    let mut i: usize = 0;
-    while i < 32 {
-        let v = lanes::lane_of(t, i);
-        let e = lanes::lane_of(table, a + i);
-        let w = level(&v, &e);
-        let f = lanes::lane_of(table, b + i);
-        let x = level(&w, &f);
-        let g = lanes::lane_of(table, c + i);
-        let y = level(&x, &g);
-        let h = lanes::lane_of(table, d + i);
-        let z = level(&y, &h);
-        lanes::put_lane(&z, t, i);
-        i += 1;
+    for i in 0..32usize {
+        let mut v = lanes::lane_of(t, i);
+        for k in 0..N {
+            let e = entry_lane::<G>(table, plan, m + k * G, i);
+            v = level(&v, &e);
+        }
+        lanes::put_lane(&v, t, i);
     }
 }
 
-// Two levels of the tile t: the sums of the entries of four tables that the plan has from place m on.
-fn two_levels(t: &mut [u8; 256], table: &[u8], plan: &[u8], m: usize)
-    requires { (length t.old ≡ 256) × ((i : ℕ) → i < 32 → Bytes (lane t.old i)) × (m + 8 ≤ length plan.now) × ((l : ℕ) → l < 8 → at plan.now (m + l) < 16) × (16384 ≤ length table.now) }
-    ensures { Levelled 4 2 plan.now m table.now t.old t.new }
-{
-    let a = entry(plan, m, 0);
-    let b = entry(plan, m + 1, 1);
-    let c = entry(plan, m + 2, 2);
-    let d = entry(plan, m + 3, 3);
-    let e = entry(plan, m + 4, 0);
-    let f = entry(plan, m + 5, 1);
-    let g = entry(plan, m + 6, 2);
-    let h = entry(plan, m + 7, 3);
-    let mut i: usize = 0;
-    while i < 32 {
-        let v = lanes::lane_of(t, i);
-        let x = four_lanes(table, a + i, b + i, c + i, d + i);
-        let w = level(&v, &x);
-        let y = four_lanes(table, e + i, f + i, g + i, h + i);
-        let z = level(&w, &y);
-        lanes::put_lane(&z, t, i);
-        i += 1;
-    }
-}
-
-// Writes to the tile at o the sums over four inputs: the plan has their weights from place m on.
-pub fn write_row(plan: &[u8], m: usize, table: &[u8], out: &mut [u8], o: usize)
-    requires { (m + 8 ≤ length plan.now) × ((l : ℕ) → l < 8 → at plan.now (m + l) < 16) × (4096 ≤ length table.now) × (o + 256 ≤ length out.old) }
-    ensures { RowWritten 1 plan.now m table.now o out.old out.new }
+// Writes to the tile at o the sums over 4 G inputs, N levels a turn: the plan has their weights from place m on.
+pub fn write_row<const G: usize, const N: usize>(
+    plan: &[u8],
+    m: usize,
+    table: &[u8],
+    out: &mut [u8],
+    o: usize,
+)
+    requires { (1 ≤ N) × (8 % N ≡ 0) × (m + 8 * G ≤ length plan.now) × ((l : ℕ) → l < 8 * G → at plan.now (m + l) < 16) × (G * 4096 ≤ length table.now) × (o + 256 ≤ length out.old) }
+    ensures { RowWritten G plan.now m table.now o out.old out.new }
 {
     let mut t = [0u8; 256];
-    let mut l: usize = 0;
-    while l < 8 {
-        four_levels(&mut t, table, plan, m + l);
-        l += 4;
-    }
-    copying::copy(&t, 0, 256, out, o);
-}
-
-// Writes to the tile at o the sums over sixteen inputs: the plan has their weights from place m on.
-pub fn write_wide_row(plan: &[u8], m: usize, table: &[u8], out: &mut [u8], o: usize)
-    requires { (m + 32 ≤ length plan.now) × ((l : ℕ) → l < 32 → at plan.now (m + l) < 16) × (16384 ≤ length table.now) × (o + 256 ≤ length out.old) }
-    ensures { RowWritten 4 plan.now m table.now o out.old out.new }
-{
-    let mut t = [0u8; 256];
-    let mut l: usize = 0;
-    while l < 32 {
-        two_levels(&mut t, table, plan, m + l);
-        l += 8;
+    for l in 0..8 / N {
+        rise::<G, N>(&mut t, table, plan, m + l * N * G);
     }
     copying::copy(&t, 0, 256, out, o);
 }

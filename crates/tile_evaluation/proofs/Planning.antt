@@ -1,8 +1,8 @@
 -- The powers of a point planned, four a turn. Assumes nothing.
 --   Planning x n g m h a z    == a has become z: the first h of the g quads are planned, all else unchanged
---   planning_none, planning_more, planning_all
+--   planning_more, planning_all
 --   plan_kept                 a plan depends on its own entries only
-use mathlib.Core.Path.{◌≡◌, refl, sym, ap, ap₂, ◌∙◌}
+use mathlib.Core.Path.{◌≡◌, sym, ap, ap₂, ◌∙◌}
 use mathlib.Core.Logic.{◌≢◌}
 use mathlib.Core.List.{List}
 use Prim.Native.Nat.{ℕ, ◌+◌, ◌*◌, ◌-◌, ◌/◌, ◌%◌, ◌≤◌, ◌<◌}
@@ -34,9 +34,6 @@ apart g m k h l j b c e = go (dec_lt l j) (dec_lt j l)
     go (yes u) v = omega (arith, row_step l j g u)
     go (no u) (yes v) = omega (arith, row_step j l g v)
     go (no u) (no v) = let s : l ≡ j = omega arith in omega (arith, ap (λ t. t * g) s)
-
-pub planning_none : (x n g m : ℕ) (a : List ℕ) → Planning x n g m 0 a a
-planning_none x n g m a = record { size = refl; own = λ k h. absurd (omega arith); before = λ i h. refl; behind = λ i h. refl }
 
 pub planning_more : (x n g m h : ℕ) (ws a b z : List ℕ) → h < g → ((e : ℕ) → e < 16 → at ws e ≡ weight x n e) → g ≤ 4
     → QuadPlanned (λ i. at ws (h * 4 + i)) (m + h) g b z → Planning x n g m h a b → Planning x n g m (h + 1) a z

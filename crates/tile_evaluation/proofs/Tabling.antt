@@ -1,7 +1,7 @@
 -- Tables of tiles, four tiles a turn. Assumes nothing.
 --   Tabling xs m h a z    == a has become z: the first h tables are written
---   tabling_none, tabling_more
-use mathlib.Core.Path.{◌≡◌, refl, ap, ◌∙◌}
+--   tabling_more
+use mathlib.Core.Path.{◌≡◌, ap, ◌∙◌}
 use mathlib.Core.List.{List}
 use Prim.Native.Nat.{ℕ, ◌+◌, ◌*◌, ◌<◌}
 use native.Mathlib.Decide.{ℕ_discrete}
@@ -17,9 +17,6 @@ use Rattle.tile_evaluation.specs.Step.{TablesAt}
 pub record Tabling (xs : List ℕ) (m h : ℕ) (a z : List ℕ) : Type 0 where
   pub size : length z ≡ length a
   pub own : TablesAt xs m h z
-
-pub tabling_none : (xs : List ℕ) (m : ℕ) (a : List ℕ) → Tabling xs m 0 a a
-tabling_none xs m a = record { size = refl; own = λ k h. absurd (omega arith) }
 
 pub tabling_more : (xs : List ℕ) (m h : ℕ) (a b z : List ℕ) → SumsWritten xs (m + h * 1024) (h * 4096) b z → Tabling xs m h a b → Tabling xs m (h + 1) a z
 tabling_more xs m h a b z S T = record { size = S.size ∙ T.size; own = λ k c. go k c (ℕ_discrete k h) }

@@ -14,11 +14,9 @@ fn power_weights(x: u8, n: usize, powers: &[u8; 255], logs: &[u8; 256]) -> [u8; 
 {
     let mut weights = [0u8; 16];
     let mut power: u8 = 1;
-    let mut e: usize = 0;
-    while e < n {
+    for e in 0..n {
         weights[e] = power;
         power = arithmetic::mul(1, x, power, powers, logs);
-        e += 1;
     }
     weights
 }
@@ -37,10 +35,8 @@ pub fn plan_powers(
     ensures { PowersPlanned x n g m plan.old plan.new }
 {
     let weights = power_weights(x, n, powers, logs);
-    let mut h: usize = 0;
-    while h < g {
+    for h in 0..g {
         plane_sums::plan_quad(&weights, h * 4, plan, m + h, g);
-        h += 1;
     }
 }
 
@@ -49,10 +45,8 @@ pub fn write_tables(tiles: &[u8], m: usize, g: usize, table: &mut [u8])
     requires { (g ≤ 4) × (m + g * 1024 ≤ length tiles.now) × (g * 4096 ≤ length table.old) }
     ensures { (length table.new ≡ length table.old) × TablesAt tiles.now m g table.new }
 {
-    let mut h: usize = 0;
-    while h < g {
+    for h in 0..g {
         plane_sums::write_sums(tiles, m + h * 1024, table, h * 4096);
-        h += 1;
     }
 }
 
@@ -63,8 +57,8 @@ pub fn write_value(g: usize, plan: &[u8], p: usize, table: &[u8], out: &mut [u8]
         → ValueWritten x n (λ e. shown xs (m + e * 256)) o out.old out.new }
 {
     if g == 1 {
-        plane_sums::write_row(plan, p, table, out, o);
+        plane_sums::write_row::<1, 4>(plan, p, table, out, o);
         return;
     }
-    plane_sums::write_wide_row(plan, p, table, out, o);
+    plane_sums::write_row::<4, 2>(plan, p, table, out, o);
 }

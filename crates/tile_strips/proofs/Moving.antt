@@ -1,7 +1,7 @@
 -- Columns of strips moved into tiles and back. Assumes nothing.
 --   loaded        the last columns copied and turned into a tile
 --   full_loaded   256 columns turned into a tile
---   cleared       zeros copied to a tile
+--   cleared       zeros written to a tile
 --   stored        a tile turned into columns, and the last of the strip copied
 --   full_stored   a tile turned into 256 columns
 use mathlib.Core.Path.{◌≡◌, refl, sym, ap, ◌∙◌}
@@ -78,12 +78,12 @@ full_loaded xs l m c o a z f b T =
       behind = T.behind;
     }
 
-pub cleared : (o : ℕ) (a z : List ℕ) → Laid (λ i. at (replicate 256 0) (0 + i)) o 256 a z → TileSet (λ s i. 0) o a z
+pub cleared : (o : ℕ) (a z : List ℕ) → Laid (λ i. 0) o 256 a z → TileSet (λ s i. 0) o a z
 cleared o a z L =
     let W = L.written in
     record {
       size = W.size;
-      own = λ s i h l. shown_zero z o s i l (λ x b k. W.put x b k ∙ at_zeros 256 (0 + (x - o)));
+      own = λ s i h l. shown_zero z o s i l (λ x b k. W.put x b k);
       before = W.before;
       behind = W.behind;
     }

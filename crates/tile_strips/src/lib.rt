@@ -41,8 +41,7 @@ pub fn clear_tile(tiles: &mut [u8], o: usize)
     requires { o + 256 ≤ length tiles.old }
     ensures { TileSet (λ s i. 0) o tiles.old tiles.new }
 {
-    let zeros = [0u8; 256];
-    copying::copy(&zeros, 0, 256, tiles, o);
+    tiles[o..o + 256].fill(0);
 }
 
 // Writes the columns from c on of strip m of l symbols: those of the tile at o.

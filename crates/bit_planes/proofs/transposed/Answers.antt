@@ -1,10 +1,6 @@
-use borrow.Author.Rules.{rules}
 use Rattle.bit_planes.proofs.Exchanges.{transposed_is}
 use Rattle.bit_planes.proofs.transposed.Goals as goal
 
 pub returns : goal.returns
 returns c =
-    let v = c.args.v.now in (
-      search rules,
-      transposed_is v c.exchange_halves-a.result c.exchange_pairs-b.result c.exchange_bits.result c.exchange_halves-a.ensures c.exchange_pairs-b.ensures c.exchange_bits.ensures,
-    )
+    (c.exchange.ensures.0, transposed_is c.args.v.now c.exchange-a.result c.exchange-b.result c.exchange.result c.exchange-a.ensures.1 c.exchange-b.ensures.1 c.exchange.ensures.1)

@@ -1,10 +1,7 @@
-use Prim.Native.Nat.{◌+◌, ◌-◌, ◌≤◌}
+use Prim.Native.Nat.{◌+◌}
 use Rattle.algebra.specs.Sequence.{at}
 use Rattle.plane_sums.proofs.Planning.{Planning}
 use Rattle.plane_sums.proofs.plan_quad.Given as goal
 
 abbrev pub invariant-loop-l : goal.invariant-loop-l
-invariant-loop-l l = (l.l ≤ 8) × Planning (λ i. at l.weights (l.x + i)) l.m l.d l.l l.initial.plan l.plan
-
-abbrev pub decreases-loop-l : goal.decreases-loop-l
-decreases-loop-l l = 8 - l.l
+invariant-loop-l l = Planning (λ i. at l.weights (l.x + i)) l.m l.d l.l l.initial.plan l.plan

@@ -1,38 +1,36 @@
-use mathlib.Core.Path.{refl, sym}
-use Prim.Native.Nat.{◌+◌, ◌-◌, ◌≤◌}
-use native.Mathlib.Nat.{add_assoc}
+use mathlib.Core.Path.{◌≡◌}
+use Prim.Native.Nat.{ℕ, ◌+◌, ◌*◌, ◌/◌, ◌%◌, ◌≤◌, ◌<◌}
+use native.Mathlib.Nat.{add_assoc, zero-mul, div-add-mod', mul-le-mul_right}
 use native.Mathlib.Omega.{arith}
+use Rattle.algebra.proofs.Strides.{row_step}
 use Rattle.plane_sums.proofs.Rows.{risen_none, risen_more, risen_written}
 use Rattle.plane_sums.proofs.write_row.Goals as goal
 
-pub loop-l-init : goal.loop-l-init
-loop-l-init c = (omega arith, refl, risen_none)
+-- the entries of a turn end where those of the plan do, or before
+room : (l n g : ℕ) → l < 8 / n → l * n * g + n * g ≤ 8 * g
+room l n g h =
+    let r : l * n + n ≤ 8 = omega (arith, row_step l (8 / n) n h, div-add-mod' 8 n) in
+    omega (arith, mul-le-mul_right g r)
 
-pub four_levels-requires : goal.four_levels-requires
-four_levels-requires c =
+all : (l n : ℕ) → l ≡ 8 / n → 8 % n ≡ 0 → l * n ≡ 8
+all l n e d = rw e (omega (arith, div-add-mod' 8 n, d))
+
+pub loop-l-init : goal.loop-l-init
+loop-l-init g c = rw zero-mul risen_none
+
+pub rise-requires : goal.rise-requires
+rise-requires g c =
     let l = c.loop-l in
-    let next : l.l + 4 ≤ 8 = omega (arith, c.loop-l-test.true, l.invariant.1) in (
-      l.invariant.2.size,
-      l.invariant.2.bytes,
-      omega (arith, next),
-      λ k h. rw (add_assoc c.args.m l.l k) (c.requires.1 (l.l + k) (omega (arith, next))),
-      c.requires.2,
+    let r = room l.l g.row.N g.row.G c.loop-l-test.true in (
+      l.invariant.size,
+      l.invariant.bytes,
+      omega (arith, r, c.requires.2),
+      λ k h. rw (add_assoc c.args.m (l.l * g.row.N * g.row.G) k) (c.requires.3 (l.l * g.row.N * g.row.G + k) (omega (arith, r, h))),
+      c.requires.4,
     )
 
 pub loop-l-preserved : goal.loop-l-preserved
-loop-l-preserved c =
-    let l = c.loop-l in
-    (omega (arith, c.loop-l-test.true, l.invariant.1), omega (arith, l.invariant.1), risen_more (omega (arith, l.invariant.1)) (omega (arith, l.invariant.1)) c.four_levels.ensures l.invariant.2)
-
-pub slice_bounds-copy-end : goal.slice_bounds-copy-end
-slice_bounds-copy-end c = sym c.loop-l.invariant.2.size
-
-pub copy-requires : goal.copy-requires
-copy-requires c = (omega (arith, c.loop-l.invariant.2.size), c.requires.3)
-
-pub shape_of-out : goal.shape_of-out
-shape_of-out c = c.copy.ensures.written.size
+loop-l-preserved g c = risen_more (omega arith) (omega arith) c.rise.ensures c.loop-l.invariant
 
 pub returns : goal.returns
-returns c =
-    risen_written (omega (arith, c.loop-l-test.false)) c.loop-l.invariant.2 c.copy.ensures
+returns g c = risen_written (all c.loop-l.l g.row.N (omega arith) c.requires.1) c.loop-l.invariant c.copy.ensures

@@ -1,9 +1,5 @@
-use Prim.Native.Nat.{◌-◌, ◌≤◌}
 use Rattle.tile_evaluation.proofs.Planning.{Planning}
 use Rattle.tile_evaluation.proofs.plan_powers.Given as goal
 
 abbrev pub invariant-loop-h : goal.invariant-loop-h
-invariant-loop-h l = (l.h ≤ l.g) × Planning l.x l.n l.g l.m l.h l.initial.plan l.plan
-
-abbrev pub decreases-loop-h : goal.decreases-loop-h
-decreases-loop-h l = l.g - l.h
+invariant-loop-h l = Planning l.x l.n l.g l.m l.h l.initial.plan l.plan

@@ -1,7 +1,6 @@
 use mathlib.Core.Path.{◌≡◌}
 use mathlib.Core.Logic.{◌≢◌, ◌⊎◌, inl, inr}
 use Prim.Native.Nat.{ℕ}
-use native.Mathlib.Omega.{arith}
 use Rattle.tile_evaluation.proofs.Weights.{row_value}
 use Rattle.tile_evaluation.proofs.write_value.Goals as goal
 
@@ -10,23 +9,13 @@ four : (g : ℕ) → (g ≡ 1) ⊎ (g ≡ 4) → g ≢ 1 → g ≡ 4
 four g (inl e) n = absurd (n e)
 four g (inr e) n = e
 
-pub write_row-requires : goal.write_row-requires
-write_row-requires c =
-    let e = c.if-g-eq1.true in
-    (omega (arith, e, c.requires.1), λ l h. c.requires.2 l (omega (arith, e)), omega (arith, e, c.requires.3), c.requires.4)
-
 pub returns-then-g-eq1 : goal.returns-then-g-eq1
 returns-then-g-eq1 c =
     let a = c.args in
     row_value 1 a.g a.plan.now a.p a.table.now a.o a.out.now _ c.if-g-eq1.true c.write_row.ensures
 
-pub write_wide_row-requires : goal.write_wide_row-requires
-write_wide_row-requires c =
-    let e = four c.args.g c.requires.0 c.if-g-eq1.false in
-    (omega (arith, e, c.requires.1), λ l h. c.requires.2 l (omega (arith, e)), omega (arith, e, c.requires.3), c.requires.4)
-
 pub returns : goal.returns
 returns c =
     let a = c.args in
     let e = four a.g c.requires.0 c.if-g-eq1.false in
-    row_value 4 a.g a.plan.now a.p a.table.now a.o a.out.now _ e c.write_wide_row.ensures
+    row_value 4 a.g a.plan.now a.p a.table.now a.o a.out.now _ e c.write_row-2.ensures

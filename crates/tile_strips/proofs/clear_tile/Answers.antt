@@ -1,8 +1,7 @@
+use native.Mathlib.Omega.{arith}
+use Rattle.std.proofs.lemmas.Grind.{elements}
 use Rattle.tile_strips.proofs.Moving.{cleared}
 use Rattle.tile_strips.proofs.clear_tile.Goals as goal
 
 pub returns : goal.returns
-returns c =
-    let k = c.copy in
-    let a = c.args in
-    cleared a.o a.tiles.now k.new.target k.ensures
+returns c = cleared c.args.o c.args.tiles.now _ (grind (arith, elements))
