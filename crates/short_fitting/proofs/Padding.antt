@@ -59,9 +59,8 @@ pub padded_word : (s : Shape) → Placed s → (ws ms v ys : List ℕ) (l : ℕ)
     → Written (λ p. masked (at ws p) (at ms p)) 0 (length ms) (replicate 256 0) v → Padded s.n (room s) ws ms (take l v) (take l (put_mid 0 (length ms) (replicate 256 0) ys))
 padded_word s P ws ms v ys l R e c W =
     let k = put_mid 0 (length ms) (replicate 256 0) ys in
-    let L = laid_front ms ys (replicate 256 0) c (omega (arith, R.marks, n_most s P, length-replicate {A = ℕ} 256 0)) in
-    subst (λ r. Padded s.n r ws ms (take l v) (take l k)) e.0
-    (padded s.n l ws ms v k (omega (arith, n_room s P)) (omega arith) (rw R.marks at W) (subst (λ n. Laid (λ i. at ms (0 + i)) 0 n (replicate 256 0) k) R.marks L))
+    let L = laid_front s.n ms ys (replicate 256 0) R.marks c (omega (arith, n_most s P, length-replicate {A = ℕ} 256 0)) in
+    subst (λ r. Padded s.n r ws ms (take l v) (take l k)) e.0 (padded s.n l ws ms v k (omega (arith, n_room s P)) (omega arith) (rw R.marks at W) L)
 
 module _ (s : Shape) (P : Placed s) (ws ms vs ns : List ℕ) (Q : Padded s.n (room s) ws ms vs ns) where
   pub padded_received : Received s ws ms → Received (mother s) vs ns

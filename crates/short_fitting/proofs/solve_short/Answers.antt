@@ -1,10 +1,10 @@
 use mathlib.Core.Path.{sym, ap, ◌∙◌}
-use Prim.Native.Nat.{ℕ, ◌+◌}
+use Prim.Native.Nat.{◌+◌}
 use native.Mathlib.Omega.{arith}
-use lib.ListN.{length, replicate, length-replicate}
-use lib.Seq.{length-take-le}
-use Rattle.code.proofs.Bounds.{n_most, row_byte}
+use lib.ListN.{length}
+use Rattle.code.proofs.Bounds.{row_byte}
 use Rattle.shortening.proofs.Extending.{extended_lost}
+use Rattle.fitting.proofs.Fronts.{slots_room, front_size}
 use Rattle.short_fitting.proofs.Padding.{padded_word, padded_received, padded_verdict}
 use Rattle.short_fitting.proofs.solve_short.Goals as goal
 
@@ -13,25 +13,25 @@ overflow_add-number c = omega (arith, c.missing_of.ensures, row_byte c.args.shap
 
 pub load-requires : goal.load-requires
 load-requires c =
-    (omega (arith, n_most c.args.shape c.requires.0.plain.family.placed, c.requires.2.marks), c.requires.2.word ∙ sym c.requires.2.marks)
+    (slots_room c.args.shape c.requires.0.plain.family.placed c.args.marks.now c.requires.2.marks, c.requires.2.word ∙ sym c.requires.2.marks)
 
 pub slice_bounds-left-end : goal.slice_bounds-left-end
-slice_bounds-left-end c = omega (arith, n_most c.args.shape c.requires.0.plain.family.placed, c.requires.2.marks)
+slice_bounds-left-end c = slots_room c.args.shape c.requires.0.plain.family.placed c.args.marks.now c.requires.2.marks
 
 pub slice_bounds-copy_from_slice-end : goal.slice_bounds-copy_from_slice-end
 slice_bounds-copy_from_slice-end c =
-    sym (length-take-le (length c.args.marks.now) (replicate 256 0) (omega (arith, n_most c.args.shape c.requires.0.plain.family.placed, c.requires.2.marks, length-replicate {A = ℕ} 256 0)))
+    sym (front_size (length c.args.marks.now) (slots_room c.args.shape c.requires.0.plain.family.placed c.args.marks.now c.requires.2.marks))
 
 pub copy_from_slice-requires : goal.copy_from_slice-requires
 copy_from_slice-requires c =
-    length-take-le (length c.args.marks.now) (replicate 256 0) (omega (arith, n_most c.args.shape c.requires.0.plain.family.placed, c.requires.2.marks, length-replicate {A = ℕ} 256 0))
+    front_size (length c.args.marks.now) (slots_room c.args.shape c.requires.0.plain.family.placed c.args.marks.now c.requires.2.marks)
 
 pub slice_bounds-room-end : goal.slice_bounds-room-end
 slice_bounds-room-end c = omega (arith, c.missing_of.ensures, row_byte c.args.shape c.requires.0.plain)
 
 pub slice_bounds-solve_long-end-3 : goal.slice_bounds-solve_long-end-3
 slice_bounds-solve_long-end-3 c =
-    sym (length-take-le _ (replicate 256 0) (omega (arith, c.missing_of.ensures, row_byte c.args.shape c.requires.0.plain, length-replicate {A = ℕ} 256 0)))
+    sym (front_size _ (omega (arith, c.missing_of.ensures, row_byte c.args.shape c.requires.0.plain)))
 
 pub solve_long-requires : goal.solve_long-requires
 solve_long-requires c =
@@ -43,7 +43,7 @@ solve_long-requires c =
     let t = c.copy_from_slice in
     let W = padded_word a.shape P a.word.now a.marks.now v t.new.self l.result c.requires.2 l.ensures t.ensures.after c.load.ensures in
     let e = c.missing_of.ensures in
-    let n = length-take-le (a.shape.k + c.missing_of.result) (replicate 256 0) (omega (arith, row_byte a.shape D.plain, length-replicate {A = ℕ} 256 0)) in (
+    let n = front_size (a.shape.k + c.missing_of.result) (omega (arith, row_byte a.shape D.plain)) in (
       D,
       c.requires.1,
       padded_received a.shape P a.word.now a.marks.now _ _ W c.requires.2,
