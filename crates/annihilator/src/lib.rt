@@ -104,7 +104,7 @@ fn take_gaps(
     requires { (t ≤ 255) × ((j : ℕ) → j < gaps → j * size + r < 256) × ((m : ℕ) → at row.now m < q field) × (t * (t + 1) + (t + 1) ≤ length work.old) × Powers 1 powers.now × Logs logs.now }
     ensures { Gathered field t size r row.now gaps work.new }
 {
-    copying::clear(work);
+    work.fill(0);
     for j in 0..gaps {
         take_gap(field, t, size, r, j, row, work, powers, logs);
     }
