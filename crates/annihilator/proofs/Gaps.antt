@@ -2,14 +2,12 @@
 --   shifted_near, shifted_far, shifted_below, shifted_lift    one coefficient of a shifted row
 --   product_is, product_listed                                a coefficient of the product is that over the field
 --   zeros_vector, zeros_clear                                 0 solves every equation
---   rows_most                                                 rows of fewer unknowns take less room
 --   filled_below, gathered_more                               a gap more: its row is the newcomer
 --   gathered_none                                             no gap yet
 use mathlib.Core.Path.{◌≡◌, refl, sym, ap, ◌∙◌}
 use mathlib.Core.Bool.{Bool, true, false}
 use mathlib.Core.List.{List}
 use Prim.Native.Nat.{ℕ, ◌+◌, ◌*◌, ◌-◌, ◌≤◌, ◌<◌}
-use native.Mathlib.Nat.{mul-le-mul}
 use native.Mathlib.Decide.{ℕ_discrete, dec_lt}
 use native.Mathlib.Omega.{arith}
 use borrow.Author.Tests.{lt-ltb, le-ltb}
@@ -86,10 +84,6 @@ zeros_clear f t size r gaps zs below j h =
     product_is f zs below e t (replicate t 0) (zeros_vector f t)
     ∙ ap (λ x. x.0)
     (dot_none (ring_of f) t (λ i. lift (ring_of f) (el_at f zs) i e) (el_at f (replicate t 0)) (λ m _. ap (el f) (at_zeros t m) ∙ el_zero f))
-
--- rows of fewer unknowns take less room
-pub rows_most : (t g : ℕ) → t ≤ g → t * (t + 1) + (t + 1) ≤ g * (g + 1) + (g + 1)
-rows_most t g h = let l : t + 1 ≤ g + 1 = omega arith in omega (arith, mul-le-mul h l)
 
 -- a buffer whose newcomer is the row of exponent e
 module _ (f t e : ℕ) (zs : List ℕ) (small : (m : ℕ) → at zs m < q f) (a y : List ℕ) (E : Echelon f t a)

@@ -1,17 +1,20 @@
 -- The product over the kept places, of X less the place's point. Assumes nothing.
+--   counted                                         the entries that pass a test, counted by their places
 --   vanishes_none, vanishes_lost, vanishes_more     no place yet; one place more, that is lost or kept
---   vanishes_at                                     all places, with as many factors as are kept
 --   Product, product_of                             there is such a product
 --   leads, root                                     it has the leading coefficient 1, and the kept points are its roots
-use mathlib.Core.Path.{◌≡◌, sym, ap, ◌∙◌}
+use mathlib.Core.Path.{◌≡◌, refl, sym, ap, ◌∙◌}
 use mathlib.Core.Logic.{◌≢◌}
-use mathlib.Core.List.{List}
+use mathlib.Core.Bool.{Bool, cond}
+use mathlib.Core.List.{List, [], ◌∷◌}
 use Prim.Native.Nat.{ℕ, zero, suc, ◌+◌, ◌≤◌, ◌<◌}
 use native.Mathlib.Numerals.{add-one}
 use native.Mathlib.Decide.{ℕ_discrete}
 use native.Mathlib.Omega.{arith}
 use lib.ListN.{length, replicate, set, length-set, length-replicate}
 use lib.Seq.{get_or-set_same, get_or-set_other}
+use Rattle.std.specs.List.{count_by}
+use Rattle.std.proofs.lemmas.List.Sums.{sum_by-cons}
 use Rattle.algebra.specs.Sequence.{at, tabulate, count}
 use Rattle.algebra.proofs.At.{at_past, at_zeros}
 use Rattle.algebra.proofs.Tabulate.{length_tabulate, at_tabulate}
@@ -28,6 +31,17 @@ use Rattle.interpolation.proofs.Marks.{kept_no, kept_yes, kept_before}
 use Rattle.interpolation.proofs.Factor.{factor_below, factor_few, factor_top, factor_here, factor_there}
 use Rattle.interpolation.proofs.Settling.{first_below}
 use Rattle.annihilator.specs.Step.{Vanishes}
+
+count_front : (u : ℕ → Bool) (n : ℕ) → count u (suc n) ≡ cond (u 0) 1 0 + count (λ i. u (suc i)) n
+unfolding count
+count_front u zero = refl
+count_front u (suc n) = omega (arith, count_front u n)
+
+pub counted : (t : ℕ → Bool) (xs : List ℕ) → count_by t xs ≡ count (λ i. t (at xs i)) (length xs)
+counted t [] = sym (count_zero (λ i. t (at [] i)))
+counted t (x ∷ xs) =
+    let front : count (λ i. t (at (x ∷ xs) i)) (suc (length xs)) ≡ cond (t x) 1 0 + count (λ i. t (at xs i)) (length xs) = count_front (λ i. t (at (x ∷ xs) i)) (length xs) in
+    sum_by-cons (λ y. cond (t y) 1 0) x xs ∙ ap (λ m. cond (t x) 1 0 + m) (counted t xs) ∙ sym front
 
 module _ (f : ℕ) (xs ms : List ℕ) where
   pub vanishes_none : (zs : List ℕ) → length zs ≡ 256 → ((m : ℕ) → at zs m ≡ 0) → Vanishes f xs ms 0 0 (set zs 0 1)
@@ -76,9 +90,6 @@ module _ (f : ℕ) (xs ms : List ℕ) where
         root_at p h k (yes e) = rw e (factor_here f c (at xs i) w zs zs' wide (small i inside) Z.size Z.below Z.few D)
         root_at p h k (no e) =
             factor_there f c (at xs i) w zs zs' wide (small i inside) Z.size Z.below Z.few D (at xs p) (small p (omega arith)) (Z.roots p (omega arith) k)
-
-pub vanishes_at : (f : ℕ) (xs ms : List ℕ) (i n c : ℕ) (zs : List ℕ) → i ≡ n → Vanishes f xs ms i c zs → Vanishes f xs ms n (count (kept ms) n) zs
-vanishes_at f xs ms i n c zs e Z = rw (Z.taken, e) at Z
 
 -- X plus k, times a row's polynomial
 grown : (f k : ℕ) (a : List ℕ) → ℕ → ℕ

@@ -11,32 +11,22 @@ ghost use Rattle.annihilator.specs.Annihilator.{Annihilated};
 ghost use Rattle.annihilator.specs.Step.{Vanishes, shifted, Gathered, Cofactors};
 
 // How many places are kept.
-fn count_kept(marks: &[u8], n: usize) -> usize
-    requires { length marks.now ≡ n }
-    ensures { result ≡ count (kept marks.now) n }
+fn count_kept(marks: &[u8]) -> usize
+    ensures { result ≡ count (kept marks.now) (length marks.now) }
 {
-    let mut c: usize = 0;
-    let mut i: usize = 0;
-    while i < n {
-        if marks[i] != 1 {
-            c += 1;
-        }
-        i += 1;
-    }
-    c
+    marks.iter().filter(|mark| **mark != 1).count()
 }
 
 // The factor of place i, unless it is lost; answers how many factors there are then.
 fn take_place(
     field: u32,
-    n: usize,
     i: usize,
     c: usize,
     points: &[u8; 256],
     marks: &[u8],
     row: &mut [u8; 256],
 ) -> usize
-    requires { (n ≤ 255) × (i < n) × (length marks.now ≡ n) × ((p : ℕ) → p < n → at points.now p < q field) × Vanishes field points.now marks.now i c row.old }
+    requires { (length marks.now ≤ 255) × (i < length marks.now) × ((p : ℕ) → p < length marks.now → at points.now p < q field) × Vanishes field points.now marks.now i c row.old }
     ensures { Vanishes field points.now marks.now (i + 1) result row.new }
 {
     let lost = marks[i] == 1;
@@ -49,16 +39,14 @@ fn take_place(
 }
 
 // The product of X - x over the points x of the kept places.
-fn vanishing(field: u32, n: usize, points: &[u8; 256], marks: &[u8], row: &mut [u8; 256])
-    requires { (length row.old ≡ 256) × ((m : ℕ) → at row.old m ≡ 0) × (n ≤ 255) × (length marks.now ≡ n) × ((p : ℕ) → p < n → at points.now p < q field) }
-    ensures { Vanishes field points.now marks.now n (count (kept marks.now) n) row.new }
+fn vanishing(field: u32, points: &[u8; 256], marks: &[u8], row: &mut [u8; 256])
+    requires { (length row.old ≡ 256) × ((m : ℕ) → at row.old m ≡ 0) × (length marks.now ≤ 255) × ((p : ℕ) → p < length marks.now → at points.now p < q field) }
+    ensures { Vanishes field points.now marks.now (length marks.now) (count (kept marks.now) (length marks.now)) row.new }
 {
     row[0] = 1;
-    let mut c: usize = 0;
-    let mut i: usize = 0;
-    while i < n {
-        c = take_place(field, n, i, c, points, marks, row);
-        i += 1;
+    let mut c = 0;
+    for i in 0..marks.len() {
+        c = take_place(field, i, c, points, marks, row);
     }
 }
 
@@ -67,21 +55,17 @@ fn shifted_at(row: &[u8; 256], e: usize, i: usize) -> u8
     requires { e < 256 }
     ensures { result ≡ shifted row.now e i }
 {
-    if e < i {
-        return 0;
-    }
-    row[e - i]
+    if e < i { 0 } else { row[e - i] }
 }
 
 // Coefficient e of the row's polynomial times each of the first t powers of X.
+// The target is all the room behind the rows, not t bytes of it: linear's lemmas on a new row are of all of it.
 fn fill_row(row: &[u8; 256], e: usize, t: usize, target: &mut [u8])
     requires { (e < 256) × (t ≤ length target.old) }
     ensures { Written (shifted row.now e) 0 t target.old target.new }
 {
-    let mut i: usize = 0;
-    while i < t {
+    for i in 0..t {
         target[i] = shifted_at(row, e, i);
-        i += 1;
     }
 }
 
@@ -120,11 +104,9 @@ fn take_gaps(
     requires { (t ≤ 255) × ((j : ℕ) → j < gaps → j * size + r < 256) × ((m : ℕ) → at row.now m < q field) × (t * (t + 1) + (t + 1) ≤ length work.old) × Powers 1 powers.now × Logs logs.now }
     ensures { Gathered field t size r row.now gaps work.new }
 {
-    copying::clear(work);
-    let mut j: usize = 0;
-    while j < gaps {
+    work.fill(0);
+    for j in 0..gaps {
         take_gap(field, t, size, r, j, row, work, powers, logs);
-        j += 1;
     }
 }
 
@@ -151,7 +133,6 @@ fn only_cofactor(
 // Whether 0 is the only polynomial of `most` coefficients that is 0 at the kept places and has no coefficient at the gaps. work may hold anything, before and after.
 pub fn only_zero(
     field: u32,
-    n: usize,
     most: usize,
     size: usize,
     r: usize,
@@ -162,21 +143,21 @@ pub fn only_zero(
     powers: &[u8; 255],
     logs: &[u8; 256],
 ) -> bool
-    requires { (n ≤ 255) × (most ≤ 255) × (length marks.now ≡ n)
-        × ((p : ℕ) → p < n → at points.now p < q field)
-        × ((i j : ℕ) → i < n → j < n → at points.now i ≡ at points.now j → i ≡ j)
-        × (count (λ p. not (eqb (at marks.now p) 1)) n < most)
+    requires { (length marks.now ≤ 255) × (most ≤ 255)
+        × ((p : ℕ) → p < length marks.now → at points.now p < q field)
+        × ((i j : ℕ) → i < length marks.now → j < length marks.now → at points.now i ≡ at points.now j → i ≡ j)
+        × (count (λ p. not (eqb (at marks.now p) 1)) (length marks.now) < most)
         × ((j : ℕ) → j < gaps → j * size + r < most)
         × (gaps * (gaps + 1) + (gaps + 1) ≤ length work.old)
         × Powers 1 powers.now × Logs logs.now }
-    ensures { Annihilated field n size r gaps most points.now marks.now result }
+    ensures { Annihilated field (length marks.now) size r gaps most points.now marks.now result }
 {
-    let t = most - count_kept(marks, n);
+    let t = most - count_kept(marks);
     if t > gaps {
         return false;
     }
     let mut row = [0u8; 256];
-    vanishing(field, n, points, marks, &mut row);
+    vanishing(field, points, marks, &mut row);
     let used = t * (t + 1) + (t + 1);
     only_cofactor(
         field,

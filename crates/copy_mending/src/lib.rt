@@ -22,8 +22,7 @@ pub fn mend_copy(
     requires { Decodable shape × Received shape word.now marks.now × (length copy.old ≡ shape.n) × (length left.old ≡ shape.n) × Powers 1 powers.now × Logs logs.now }
     ensures { MendedCopy shape word.now marks.now copy.new left.new result }
 {
-    let n = shape.n as usize;
-    interpolation::load(word, marks, n, copy);
-    copying::copy(marks, 0, n, left, 0);
+    interpolation::load(word, marks, copy);
+    left.copy_from_slice(marks);
     mending::mend_groups(shape, copy, left, powers, logs)
 }

@@ -2,6 +2,7 @@
 --   long, short_of    a message of the one is one of the other, with the same polynomial
 --   undecided_is      losses are undecided just where a codeword of whole groups that is not 0 is 0 at every kept place
 --   system_fits       work has room for the equations
+--   marked            the marks over all places
 --   asked             what is asked of the code of whole groups
 use mathlib.Core.Path.{◌≡◌, refl, sym, ap, ap₂, subst, ◌∙◌}
 use mathlib.Core.Logic.{◌≢◌}
@@ -12,7 +13,8 @@ use native.Mathlib.Nat.{mul-le-mul, mul-le-mul_left, div-lt_iff_lt-mul}
 use native.Mathlib.Decide.{dec_lt}
 use native.Mathlib.Omega.{arith}
 use lib.Dec.{eqb→eq}
-use lib.ListN.{length}
+use lib.ListN.{length, take, replicate, length-replicate}
+use borrow.Rule.Slice.PartMut.{put_mid}
 use Rattle.algebra.specs.Sequence.{at}
 use Rattle.algebra.proofs.Booleans.{so, yes_true, no_false}
 use Rattle.code.specs.declared.Shape.{Shape}
@@ -27,11 +29,12 @@ use Rattle.code.proofs.Codewords.{MessageIs, message_is, is_message_of}
 use Rattle.code.proofs.Distance.{symbol_behind}
 use Rattle.code.proofs.Differences.{apart, apart_message, apart_zero, apart_same, zero_word}
 use Rattle.code.proofs.Deciding.{Two, shared_all, two_of, undecided_of}
+use Rattle.fitting.proofs.Fronts.{laid_front, slots_room}
 use Rattle.shortening.specs.Mother.{mother, Shortens}
 use Rattle.shortening.proofs.Mother.{symbol_mother, mother_whole, mother_guarantee}
 use Rattle.shortening.proofs.Lengthening.{Lengthened, lengthens}
 use Rattle.shortening.proofs.Shortened.{shortened}
-use Rattle.shortening.proofs.Extending.{Extended, extended_lost}
+use Rattle.shortening.proofs.Extending.{Extended, extended, extended_lost}
 use Rattle.deciding.specs.Step.{gaps, system_size, Annuls, Annulled, none, some}
 
 module _ (s : Shape) (L : Plain s) where
@@ -164,6 +167,14 @@ module _ (s : Shape) (L : Plain s) where
     system_fits w h =
         let l : gaps (mother s) + 1 ≤ s.k + 1 = omega (arith, gaps_few) in
         omega (arith, gaps_few, mul-le-mul {n₁ = gaps (mother s)} {m₁ = gaps (mother s) + 1} {n₂ = s.k} {m₂ = s.k + 1} gaps_few l)
+
+-- the marks copied to a row of zeros: those over all places
+pub marked : (s : Shape) → Placed s → (ms ys : List ℕ) (l : ℕ) → length ms ≡ s.n → (l ≡ room s) × (l ≤ 255) → ys ≡ ms
+    → Extended s.n (room s) ms (take l (put_mid 0 (length ms) (replicate 256 0) ys))
+marked s P ms ys l n e c =
+    let k = put_mid 0 (length ms) (replicate 256 0) ys in
+    let L = laid_front s.n ms ys (replicate 256 0) n c (omega (arith, slots_room s P ms n, length-replicate {A = ℕ} 256 0)) in
+    subst (λ r. Extended s.n r ms (take l k)) e.0 (extended s.n l ms k (omega (arith, n_room s P)) (omega arith) L)
 
 -- what is asked of t, the code of whole groups, and of the marks over all its places
 pub asked : (s t : Shape) → Decodable s → t ≡ mother s → (ms ns : List ℕ) → Extended s.n (room s) ms ns → guarantee s < lost_number s ms

@@ -32,7 +32,6 @@ fn only_zero(
     fitting::fill_points(shape, &mut points, powers);
     annihilator::only_zero(
         shape.field,
-        n,
         most,
         size,
         r,
@@ -56,11 +55,10 @@ fn decided_past(
     requires { Decodable shape × (length marks.now ≡ shape.n) × (guarantee shape < lost_number shape marks.now) × (shape.k * (shape.k + 1) + (shape.k + 1) ≤ length work.old) × Powers 1 powers.now × Logs logs.now }
     ensures { result ≡ not (undecided shape marks.now) }
 {
-    let n = shape.n as usize;
     let places = layout::room_of(shape) as usize;
     let mother = shortening::mother_of(shape);
     let mut all = [0u8; 256];
-    copying::copy(marks, 0, n, &mut all, 0);
+    all[..marks.len()].copy_from_slice(marks);
     only_zero(mother, &all[..places], work, powers, logs)
 }
 
@@ -91,10 +89,10 @@ pub fn decided(shape: Shape, marks: &[u8], work: &mut [u8]) -> bool
 {
     let powers = tables::power_table();
     let logs = tables::log_table();
-    let n = shape.n as usize;
-    let mut left = [0u8; 256];
-    copying::copy(marks, 0, n, &mut left, 0);
-    let lone = decided_left(shape, &mut left[..n], work, &powers, &logs);
-    copying::clear(work);
+    let mut room = [0u8; 256];
+    let left = &mut room[..marks.len()];
+    left.copy_from_slice(marks);
+    let lone = decided_left(shape, left, work, &powers, &logs);
+    work.fill(0);
     lone
 }

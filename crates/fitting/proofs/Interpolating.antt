@@ -1,19 +1,20 @@
 -- The interpolation polynomial of the kept symbols, and the messages that fit. Assumes nothing.
---   gap_room, gaps_few, exponent_room, message_sum    where the coefficients of gaps and of message symbols stand
+--   gaps_none, gaps_some    the coefficients of gaps, read one after the other
+--   gap_room, exponent_room, message_sum    where the coefficients of gaps and of message symbols stand
 --   points_below, points_differ, sure_most, within    what the interpolation asks for
 --   verdict_missed, verdict_foreign, verdict_read    no polynomial passes; it is no encoding polynomial; it is one
 use mathlib.Core.Path.{◌≡◌, refl, sym, ap, ◌∙◌}
+use mathlib.Core.Logic.{◌≢◌}
 use mathlib.Core.Bool.{Bool, true, false}
 use mathlib.Core.List.{List}
 use Prim.Native.Nat.{ℕ, ◌+◌, ◌*◌, ◌-◌, ◌/◌, ◌≤◌, ◌<◌}
-use native.Mathlib.Nat.{div-le_self}
 use native.Mathlib.Omega.{arith}
 use lib.Dec.{eqb}
-use borrow.Author.Tests.{eq-eqb}
+use borrow.Author.Tests.{eq-eqb, ne_eqb}
 use Rattle.algebra.specs.Sequence.{at, tabulate, count}
 use Rattle.algebra.proofs.Booleans.{so, yes_true, differ}
 use Rattle.algebra.proofs.Tabulate.{tabulate_is, tabulate_same}
-use Rattle.algebra.proofs.Every.{every_intro}
+use Rattle.algebra.proofs.Every.{every_intro, every_not}
 use Rattle.field.specs.Field.{q}
 use Rattle.field.specs.Polynomial.{poly}
 use Rattle.code.specs.declared.Shape.{Shape}
@@ -25,7 +26,7 @@ use Rattle.code.specs.Erasure.{lost_number}
 use Rattle.code.specs.Laws.{Placed, Whole}
 use Rattle.code.specs.Promise.{PointsDiffer}
 use Rattle.code.specs.Verdict.{Verdict, one, none}
-use Rattle.code.proofs.Bounds.{n_most, k_most}
+use Rattle.code.proofs.Bounds.{n_most}
 use Rattle.code.proofs.Places.{n_room}
 use Rattle.code.proofs.Points.{point_below, points_differ as slots_differ}
 use Rattle.code.proofs.Codewords.{MessageIs}
@@ -36,6 +37,18 @@ use Rattle.code.proofs.Fits.{Fit, fits_to, fits_of}
 use Rattle.fitting.specs.Step.{gap, gaps_zero, message_of}
 use Rattle.fitting.proofs.Reading.{degree_below, exponent_most, gap_most, number_is, value_of, symbol_of, gap_of, gap_last, read_message, read_symbol}
 
+-- g is the size of a group
+module _ (s : Shape) (cs : List ℕ) (g : ℕ) (e : g ≡ size s) where
+  pub gaps_none : ((j : ℕ) → j < (s.k - 1) / s.r → at cs (j * g + s.r) ≡ 0) → true ≡ gaps_zero s cs
+  unfolding gaps_zero gap
+  gaps_none z =
+      sym (yes_true (gaps_zero s cs) (every_intro (λ j. eqb (at cs (gap s j)) 0) ((s.k - 1) / s.r) (λ j h. so (eq-eqb (at cs (gap s j)) 0 (rw e at (z j h))))))
+
+  pub gaps_some : (j : ℕ) → j < (s.k - 1) / s.r → at cs (j * g + s.r) ≢ 0 → false ≡ gaps_zero s cs
+  unfolding gaps_zero gap
+  gaps_some j h n =
+      sym (every_not (λ j. eqb (at cs (gap s j)) 0) ((s.k - 1) / s.r) j h (ne_eqb (at cs (gap s j)) 0 (rw e at n)))
+
 module _ (s : Shape) (L : Whole s) where
   abbrev P : Placed s
   P = L.plain.family.placed
@@ -43,9 +56,6 @@ module _ (s : Shape) (L : Whole s) where
   pub gap_room : (j : ℕ) → j < (s.k - 1) / s.r → j * size s + s.r < 256
   unfolding gap
   gap_room j h = omega (arith, gap_most s L j h, degree_below s L, n_most s P)
-
-  pub gaps_few : (s.k - 1) / s.r < 256
-  gaps_few = omega (arith, div-le_self (s.k - 1) s.r, k_most s L.plain)
 
   pub exponent_room : (m : ℕ) → m < s.k → m + s.tolerance * (m / s.r) < 256
   exponent_room m h = omega (arith, exponent_is s P L.plain.second_none m, exponent_most s L m h, degree_below s L, n_most s P)

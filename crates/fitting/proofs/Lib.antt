@@ -1,3 +1,4 @@
 pub mod Pointing
 pub mod Reading
 pub mod Interpolating
+pub mod Fronts

@@ -19,11 +19,9 @@ fn fill_group(shape: Shape, group: u32, points: &mut [u8; 256], powers: &[u8; 25
     ensures { (length points.new ≡ 256) × Pointed shape ((group + 1) * size shape) points.new }
 {
     let size = layout::size_of(shape);
-    let mut i: u32 = 0;
-    while i < size {
+    for i in 0..size {
         let slot = layout::slot_at(shape, group, i) as usize;
         points[slot] = layout::point_at(shape, group, i, powers);
-        i += 1;
     }
 }
 
@@ -33,10 +31,8 @@ pub fn fill_points(shape: Shape, points: &mut [u8; 256], powers: &[u8; 255])
     ensures { Pointed shape (room shape) points.new }
 {
     let groups = layout::groups_of(shape);
-    let mut group: u32 = 0;
-    while group < groups {
+    for group in 0..groups {
         fill_group(shape, group, points, powers);
-        group += 1;
     }
 }
 
@@ -49,12 +45,10 @@ fn gaps_zero(shape: Shape, coefs: &[u8; 256]) -> bool
     let r = shape.r as usize;
     let k = shape.k as usize;
     let gaps = (k - 1) / r;
-    let mut j: usize = 0;
-    while j < gaps {
+    for j in 0..gaps {
         if coefs[j * size + r] != 0 {
             return false;
         }
-        j += 1;
     }
     true
 }
@@ -66,11 +60,8 @@ fn read_message(shape: Shape, coefs: &[u8; 256], message: &mut [u8])
 {
     let tolerance = shape.tolerance as usize;
     let r = shape.r as usize;
-    let k = shape.k as usize;
-    let mut m: usize = 0;
-    while m < k {
-        message[m] = coefs[m + tolerance * (m / r)];
-        m += 1;
+    for (m, symbol) in message.iter_mut().enumerate() {
+        *symbol = coefs[m + tolerance * (m / r)];
     }
 }
 
@@ -93,7 +84,6 @@ pub fn solve_within(
     fill_points(shape, &mut points, powers);
     if !interpolation::interpolate(
         shape.field,
-        n,
         n - sure,
         &points,
         word,

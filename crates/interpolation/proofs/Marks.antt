@@ -2,7 +2,7 @@
 --   masked_lost, masked_kept, masked_below    a symbol by its mark
 --   kept_no, kept_yes, kept_enough            the test that a place is not lost, and how many pass it
 --   kept_not_lost, kept_before                what passes is not lost; a kept place up to a lost one is before it
---   agreed_more, agreed_not, agreed_all       places that agree, one after the other
+--   agreed                                    places that agree
 use mathlib.Core.Path.{◌≡◌, refl, sym, ap, ◌∙◌}
 use mathlib.Core.Logic.{◌≢◌}
 use mathlib.Core.Bool.{Bool, true, false, cond, not, ◌||◌}
@@ -11,8 +11,8 @@ use Prim.Native.Nat.{ℕ, ◌+◌, ◌≤◌, ◌<◌}
 use native.Mathlib.Decide.{ℕ_discrete}
 use native.Mathlib.Omega.{arith}
 use lib.Dec.{T, eqb}
+use Rattle.std.specs.Prelude.{IsTrue, ◌↔◌}
 use Rattle.algebra.specs.Sequence.{at, count}
-use Rattle.algebra.proofs.Booleans.{differ}
 use Rattle.algebra.proofs.Equality.{Same, same, other, same?}
 use Rattle.algebra.proofs.Counting.{count_split}
 use Rattle.interpolation.specs.Interpolated.{masked}
@@ -79,22 +79,13 @@ kept_before ms i p lost h k = go (ℕ_discrete p i)
     go (yes e) = absurd (k (ap (at ms) e ∙ lost))
     go (no e) = omega arith
 
--- places that agree, one after the other
-module _ (from i : ℕ) (ms rs : List ℕ) where
-  pub agreed_more : ((p : ℕ) → from ≤ p → p < i → at ms p ≢ 1 → at rs p ≡ 0) → masked (at rs i) (at ms i) ≡ 0
-      → (p : ℕ) → from ≤ p → p < i + 1 → at ms p ≢ 1 → at rs p ≡ 0
-  agreed_more A e p h l k = go (ℕ_discrete p i)
-    where
-      go : Dec (p ≡ i) → at rs p ≡ 0
-      go (yes z) = sym (masked_kept (at rs p) (at ms p) k) ∙ ap (λ j. masked (at rs j) (at ms j)) z ∙ e
-      go (no z) = A p h (omega arith) k
-
-  pub agreed_not : (n : ℕ) → from ≤ i → i < n → (masked (at rs i) (at ms i) ≢ 0) → Agreed n ms from rs false
-  agreed_not n h l e = record { none = λ z. differ (sym z); agree = λ A. absurd (e (go A (ℕ_discrete (at ms i) 1))) }
-    where
-      go : ((p : ℕ) → from ≤ p → p < n → at ms p ≢ 1 → at rs p ≡ 0) → Dec (at ms i ≡ 1) → masked (at rs i) (at ms i) ≡ 0
-      go A (yes z) = masked_lost (at rs i) (at ms i) z
-      go A (no z) = masked_kept (at rs i) (at ms i) z ∙ A i h l z
-
-  pub agreed_all : (n : ℕ) → n ≤ i → ((p : ℕ) → from ≤ p → p < i → at ms p ≢ 1 → at rs p ≡ 0) → Agreed n ms from rs true
-  agreed_all n h A = record { none = λ z p b l k. A p b (omega arith) k; agree = λ z. refl }
+-- places that agree
+pub agreed : (n from : ℕ) (ms rs : List ℕ) (r : Bool) → IsTrue r ↔ ((p : ℕ) → from ≤ p → p < n → masked (at rs p) (at ms p) ≡ 0) → Agreed n ms from rs r
+agreed n from ms rs r h = record {
+  none = λ e p b l k. sym (masked_kept (at rs p) (at ms p) k) ∙ h.0 e p b l;
+  agree = λ A. h.1 (λ p b l. go p b l (ℕ_discrete (at ms p) 1) A);
+}
+  where
+    go : (p : ℕ) → from ≤ p → p < n → Dec (at ms p ≡ 1) → ((i : ℕ) → from ≤ i → i < n → at ms i ≢ 1 → at rs i ≡ 0) → masked (at rs p) (at ms p) ≡ 0
+    go p b l (yes z) A = masked_lost (at rs p) (at ms p) z
+    go p b l (no z) A = masked_kept (at rs p) (at ms p) z ∙ A p b l z

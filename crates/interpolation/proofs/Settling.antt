@@ -1,8 +1,7 @@
 -- The start and the end of the steps of Newton's interpolation. Assumes nothing.
 --   unit_row, unit_values       the polynomial 1, and its values
 --   first_below                 a row with 1 in front and 0 behind is of elements
---   count_step      how many places are taken, unit_row place more
---   enough          while fewer than most are taken, there is a place more
+--   count_step      how many places are taken, one place more
 --   started         no place is taken yet
 --   begun           the same, of the rows at the start
 --   settled         most places are taken
@@ -10,7 +9,6 @@ use mathlib.Core.Path.{◌≡◌, refl, sym, ap, ◌∙◌}
 use mathlib.Core.Bool.{Bool, true, false}
 use mathlib.Core.List.{List}
 use Prim.Native.Nat.{ℕ, zero, suc, ◌+◌, ◌≤◌, ◌<◌}
-use native.Mathlib.Decide.{ℕ_discrete}
 use native.Mathlib.Omega.{arith}
 use lib.ListN.{length, replicate, set, length-set, length-replicate}
 use lib.Seq.{get_or-set_same, get_or-set_other}
@@ -42,13 +40,6 @@ count_step t i = go (t i) refl
     go : (b : Bool) → t i ≡ b → count t (i + 1) ≤ count t i + 1
     go true e = omega (arith, count_yes t i e)
     go false e = omega (arith, count_no t i e)
-
-pub enough : (t : ℕ → Bool) (i n most : ℕ) → i ≤ n → count t i < most → most ≤ count t n → i < n
-enough t i n most h l b = go (ℕ_discrete i n)
-  where
-    go : Dec (i ≡ n) → i < n
-    go (yes e) = absurd (omega (arith, ap (count t) e))
-    go (no e) = omega arith
 
 module _ (f : ℕ) where
   zero_value : (cs : List ℕ) (x : ℕ) → x < q f → length cs ≡ 256 → ((m : ℕ) → at cs m ≡ 0) → poly f cs x ≡ 0

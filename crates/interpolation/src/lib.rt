@@ -1,4 +1,5 @@
 // Newton's interpolation: the polynomial through the places of a word that are not lost. Rows are worked on in whole blocks of 64 bytes.
+// Each row is an array of its own, and not a field beside others: of loops over one row the compiler makes vectors.
 #![tactic(auto)]
 
 ghost use Rattle.std.specs.Prelude.{◌≡◌, ◌≢◌, List, ℕ, ◌+◌, ◌≤◌, ◌<◌, eqb, length};
@@ -36,12 +37,9 @@ fn mul_differences(
     requires { (length values.old ≡ 256) × (from ≤ to) × (to ≤ 256) }
     ensures { Written (λ p. times field (minus field (at points.now p) y) (at values.old p)) from to values.old values.new }
 {
-    let mut p = from;
-    while p < to {
+    for p in from..to {
         let d = arithmetic::sub(field, points[p], y);
-        let v = arithmetic::product(field, d, values[p]);
-        values[p] = v;
-        p += 1;
+        values[p] = arithmetic::product(field, d, values[p]);
     }
 }
 
@@ -50,12 +48,8 @@ fn shift(source: &[u8; 256], target: &mut [u8; 257], to: usize)
     requires { (length target.old ≡ 257) × (to ≤ 256) }
     ensures { Shifted to source.now target.new }
 {
+    target[1..=to].copy_from_slice(&source[..to]);
     target[0] = 0;
-    let mut p: usize = 0;
-    while p < to {
-        target[p + 1] = source[p];
-        p += 1;
-    }
 }
 
 // The polynomial of shifted plus k times the one that was shifted.
@@ -63,12 +57,9 @@ fn combine(field: u32, shifted: &[u8; 257], target: &mut [u8; 256], to: usize, k
     requires { (length target.old ≡ 256) × (to ≤ 256) }
     ensures { Written (λ p. plus field (at shifted.now p) (times field k (at shifted.now (p + 1)))) 0 to target.old target.new }
 {
-    let mut p: usize = 0;
-    while p < to {
+    for p in 0..to {
         let s = arithmetic::product(field, k, shifted[p + 1]);
-        let v = arithmetic::add(field, shifted[p], s);
-        target[p] = v;
-        p += 1;
+        target[p] = arithmetic::add(field, shifted[p], s);
     }
 }
 
@@ -89,28 +80,22 @@ fn symbol_at(word: &[u8], marks: &[u8], p: usize) -> u8
     ensures { result ≡ masked (at word.now p) (at marks.now p) }
 {
     let lost = marks[p] == 1;
-    if lost {
-        return 0;
-    }
-    word[p]
+    if lost { 0 } else { word[p] }
 }
 
 // The symbols of the word, 0 where one is lost. A lost symbol is not read.
-pub fn load(word: &[u8], marks: &[u8], n: usize, rests: &mut [u8])
-    requires { (n ≤ length rests.old) × (length word.now ≡ n) × (length marks.now ≡ n) }
-    ensures { Written (λ p. masked (at word.now p) (at marks.now p)) 0 n rests.old rests.new }
+pub fn load(word: &[u8], marks: &[u8], rests: &mut [u8])
+    requires { (length marks.now ≤ length rests.old) × (length word.now ≡ length marks.now) }
+    ensures { Written (λ p. masked (at word.now p) (at marks.now p)) 0 (length marks.now) rests.old rests.new }
 {
-    let mut p: usize = 0;
-    while p < n {
+    for p in 0..marks.len() {
         rests[p] = symbol_at(word, marks, p);
-        p += 1;
     }
 }
 
 // Takes place i, unless it is lost; answers how many places are then taken.
 fn advance(
     field: u32,
-    n: usize,
     i: usize,
     c: usize,
     points: &[u8; 256],
@@ -122,10 +107,10 @@ fn advance(
     powers: &[u8; 255],
     logs: &[u8; 256],
 ) -> usize
-    requires { (n ≤ 255) × (i < n) × (c < 255) × (length marks.now ≡ n) × Nodes field n points.now × Rooms coefs.old basis.old values.old rests.old × Powers 1 powers.now × Logs logs.now }
+    requires { (length marks.now ≤ 255) × (i < length marks.now) × (c < 255) × Nodes field (length marks.now) points.now × Rooms coefs.old basis.old values.old rests.old × Powers 1 powers.now × Logs logs.now }
     ensures { Rooms coefs.new basis.new values.new rests.new × ((wants : List ℕ)
-        → Newton field n points.now wants marks.now i c coefs.old basis.old values.old rests.old
-        → Newton field n points.now wants marks.now (i + 1) result coefs.new basis.new values.new rests.new) }
+        → Newton field (length marks.now) points.now wants marks.now i c coefs.old basis.old values.old rests.old
+        → Newton field (length marks.now) points.now wants marks.now (i + 1) result coefs.new basis.new values.new rests.new) }
 {
     if marks[i] == 1 {
         return c;
@@ -136,7 +121,7 @@ fn advance(
     let h = arithmetic::sub(field, 0, k);
     let m = block_end(c + 1);
     let start = block_start(i);
-    let end = block_end(n);
+    let end = block_end(marks.len());
     arithmetic::add_scaled(field, coefs, basis, 0, m, k);
     arithmetic::add_scaled(field, rests, values, start, end, h);
     mul_differences(field, values, points, start, end, y);
@@ -147,7 +132,6 @@ fn advance(
 // The polynomial through the first `most` places that are not lost; answers the place behind them.
 fn settle(
     field: u32,
-    n: usize,
     most: usize,
     points: &[u8; 256],
     marks: &[u8],
@@ -156,19 +140,20 @@ fn settle(
     powers: &[u8; 255],
     logs: &[u8; 256],
 ) -> usize
-    requires { (length coefs.old ≡ 256) × ((m : ℕ) → at coefs.old m ≡ 0) × (length rests.old ≡ 256) × (n ≤ 255) × (length marks.now ≡ n) × Nodes field n points.now × ((p : ℕ) → p < n → at rests.old p < q field)
-        × (most ≤ count (kept marks.now) n) × Powers 1 powers.now × Logs logs.now }
-    ensures { Settled field n most points.now rests.old marks.now result coefs.new rests.new }
+    requires { (length coefs.old ≡ 256) × ((m : ℕ) → at coefs.old m ≡ 0) × (length rests.old ≡ 256) × (length marks.now ≤ 255) × Nodes field (length marks.now) points.now × ((p : ℕ) → p < length marks.now → at rests.old p < q field)
+        × (most ≤ count (kept marks.now) (length marks.now)) × Powers 1 powers.now × Logs logs.now }
+    ensures { Settled field (length marks.now) most points.now rests.old marks.now result coefs.new rests.new }
 {
     let mut basis = [0u8; 256];
     basis[0] = 1;
     let mut values = [1u8; 256];
-    let mut i: usize = 0;
     let mut c: usize = 0;
-    while c < most {
+    for i in 0..marks.len() {
+        if c == most {
+            return i;
+        }
         c = advance(
             field,
-            n,
             i,
             c,
             points,
@@ -180,31 +165,21 @@ fn settle(
             powers,
             logs,
         );
-        i += 1;
     }
-    i
+    marks.len()
 }
 
 // Nothing is left at the places from `from` on that are not lost.
-fn agree(marks: &[u8], rests: &[u8; 256], from: usize, n: usize) -> bool
-    requires { (n ≤ 255) × (length marks.now ≡ n) }
-    ensures { Agreed n marks.now from rests.now result }
+fn agree(marks: &[u8], rests: &[u8; 256], from: usize) -> bool
+    requires { length marks.now ≤ 255 }
+    ensures { Agreed (length marks.now) marks.now from rests.now result }
 {
-    let mut i = from;
-    while i < n {
-        let s = symbol_at(rests, marks, i);
-        if s != 0 {
-            return false;
-        }
-        i += 1;
-    }
-    true
+    (from..marks.len()).all(|i| symbol_at(rests, marks, i) == 0)
 }
 
 // The polynomial of `most` coefficients through the places that are not lost: false where there is none, and coefs then hold one through the first of them.
 pub fn interpolate(
     field: u32,
-    n: usize,
     most: usize,
     points: &[u8; 256],
     word: &[u8],
@@ -213,20 +188,17 @@ pub fn interpolate(
     powers: &[u8; 255],
     logs: &[u8; 256],
 ) -> bool
-    requires { (n ≤ 255) × (length word.now ≡ n) × (length marks.now ≡ n)
-        × ((p : ℕ) → p < n → at points.now p < q field)
-        × ((i j : ℕ) → i < n → j < n → at points.now i ≡ at points.now j → i ≡ j)
-        × ((p : ℕ) → p < n → at marks.now p ≢ 1 → at word.now p < q field)
-        × (most + count (λ p. eqb (at marks.now p) 1) n ≤ n)
+    requires { (length marks.now ≤ 255) × (length word.now ≡ length marks.now)
+        × ((p : ℕ) → p < length marks.now → at points.now p < q field)
+        × ((i j : ℕ) → i < length marks.now → j < length marks.now → at points.now i ≡ at points.now j → i ≡ j)
+        × ((p : ℕ) → p < length marks.now → at marks.now p ≢ 1 → at word.now p < q field)
+        × (most + count (λ p. eqb (at marks.now p) 1) (length marks.now) ≤ length marks.now)
         × Powers 1 powers.now × Logs logs.now }
-    ensures { Interpolated field n most points.now word.now marks.now coefs.new result }
+    ensures { Interpolated field (length marks.now) most points.now word.now marks.now coefs.new result }
 {
     let mut rests = [0u8; 256];
-    load(word, marks, n, &mut rests);
-    let mut row = [0u8; 256];
-    let i = settle(
-        field, n, most, points, marks, &mut row, &mut rests, powers, logs,
-    );
-    *coefs = row;
-    agree(marks, &rests, i, n)
+    load(word, marks, &mut rests);
+    *coefs = [0; 256];
+    let i = settle(field, most, points, marks, coefs, &mut rests, powers, logs);
+    agree(marks, &rests, i)
 }

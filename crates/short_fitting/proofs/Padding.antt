@@ -1,8 +1,8 @@
 -- A word and its marks with zeros behind them, up to all places. Assumes nothing.
 --   Padded n l ws ms vs ns    == vs and ns have l entries: the kept symbols of ws and the marks ms, and 0 from n on
---   padded                    what was loaded and copied into rows of zeros
+--   padded                    what was loaded and copied into rows of zeros; padded_word of a word received
 --   padded_received, padded_verdict    what is said of the one word is said of the other
-use mathlib.Core.Path.{◌≡◌, sym, ◌∙◌}
+use mathlib.Core.Path.{◌≡◌, sym, subst, ◌∙◌}
 use mathlib.Core.Logic.{◌≢◌}
 use mathlib.Core.Bool.{true, ◌||◌}
 use mathlib.Core.List.{List}
@@ -13,6 +13,7 @@ use borrow.Author.Tests.{eq-eqb}
 use lib.Dec.{T, eqb, ltb, lt→ltb}
 use lib.ListN.{length, take, replicate, length-replicate}
 use lib.Seq.{length-take-le, get_or-take}
+use borrow.Rule.Slice.PartMut.{put_mid}
 use Rattle.algebra.specs.Sequence.{at}
 use Rattle.algebra.specs.Writing.{Written, Laid}
 use Rattle.algebra.proofs.At.{at_zeros}
@@ -27,8 +28,11 @@ use Rattle.code.specs.Erasure.{kept_below}
 use Rattle.code.specs.Laws.{Placed}
 use Rattle.code.specs.Step.{Received}
 use Rattle.code.specs.Verdict.{Verdict}
+use Rattle.code.proofs.Bounds.{n_most}
+use Rattle.code.proofs.Places.{n_room}
 use Rattle.code.proofs.Fits.{kept_symbol, fits_to, fits_of}
 use Rattle.code.proofs.Verdicts.{verdict_same}
+use Rattle.fitting.proofs.Fronts.{laid_front}
 use Rattle.interpolation.specs.Interpolated.{masked}
 use Rattle.interpolation.proofs.Marks.{masked_kept}
 use Rattle.shortening.specs.Mother.{mother}
@@ -40,7 +44,7 @@ pub record Padded (n l : ℕ) (ws ms vs ns : List ℕ) : Type 0 where
   pub kept : (p : ℕ) → p < n → at ms p ≢ 1 → at vs p ≡ at ws p
   pub behind : (p : ℕ) → n ≤ p → at vs p ≡ 0
 
-pub padded : (n l : ℕ) (ws ms v k : List ℕ) → n ≤ l → l ≤ 256 → Written (λ p. masked (at ws p) (at ms p)) 0 n (replicate 256 0) v
+padded : (n l : ℕ) (ws ms v k : List ℕ) → n ≤ l → l ≤ 256 → Written (λ p. masked (at ws p) (at ms p)) 0 n (replicate 256 0) v
     → Laid (λ i. at ms (0 + i)) 0 n (replicate 256 0) k → Padded n l ws ms (take l v) (take l k)
 padded n l ws ms v k h m W L =
     let e = length-replicate {A = ℕ} 256 0 in
@@ -50,6 +54,13 @@ padded n l ws ms v k h m W L =
       kept = λ p b d. get_or-take l v p 0 (omega arith) ∙ W.put p (omega arith) b ∙ masked_kept (at ws p) (at ms p) d;
       behind = front_behind n l v (omega (arith, W.size)) (λ p d. W.behind p d ∙ at_zeros 256 p);
     }
+
+pub padded_word : (s : Shape) → Placed s → (ws ms v ys : List ℕ) (l : ℕ) → Received s ws ms → (l ≡ room s) × (l ≤ 255) → ys ≡ ms
+    → Written (λ p. masked (at ws p) (at ms p)) 0 (length ms) (replicate 256 0) v → Padded s.n (room s) ws ms (take l v) (take l (put_mid 0 (length ms) (replicate 256 0) ys))
+padded_word s P ws ms v ys l R e c W =
+    let k = put_mid 0 (length ms) (replicate 256 0) ys in
+    let L = laid_front s.n ms ys (replicate 256 0) R.marks c (omega (arith, n_most s P, length-replicate {A = ℕ} 256 0)) in
+    subst (λ r. Padded s.n r ws ms (take l v) (take l k)) e.0 (padded s.n l ws ms v k (omega (arith, n_room s P)) (omega arith) (rw R.marks at W) L)
 
 module _ (s : Shape) (P : Placed s) (ws ms vs ns : List ℕ) (Q : Padded s.n (room s) ws ms vs ns) where
   pub padded_received : Received s ws ms → Received (mother s) vs ns

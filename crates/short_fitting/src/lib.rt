@@ -52,15 +52,13 @@ fn solve_short(
     requires { Decodable shape × (whole shape ≡ false) × Received shape word.now marks.now × (length message.old ≡ shape.k) × (lost_number shape marks.now ≤ guarantee shape) × Powers 1 powers.now × Logs logs.now }
     ensures { Verdict shape word.now marks.now message.old message.new result }
 {
-    let n = shape.n as usize;
-    let k = shape.k as usize;
     let places = layout::room_of(shape) as usize;
-    let number = k + (places - n);
+    let number = (shape.k + layout::missing_of(shape)) as usize;
     let mut symbols = [0u8; 256];
     let mut left = [0u8; 256];
     let mut room = [0u8; 256];
-    interpolation::load(word, marks, n, &mut symbols);
-    copying::copy(marks, 0, n, &mut left, 0);
+    interpolation::load(word, marks, &mut symbols);
+    left[..marks.len()].copy_from_slice(marks);
     solve_long(
         shape,
         &symbols[..places],

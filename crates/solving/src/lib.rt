@@ -80,7 +80,7 @@ fn solve_broken(
     if verdict == 11 {
         return elimination::solve_beyond(shape, word, marks, message, work, powers, logs);
     }
-    copying::clear(work);
+    work.fill(0);
     verdict
 }
 
@@ -95,6 +95,6 @@ pub fn solve(shape: Shape, word: &[u8], marks: &[u8], message: &mut [u8], work: 
     if verdict == 11 {
         return solve_broken(shape, word, marks, message, work, &powers, &logs);
     }
-    copying::clear(work);
+    work.fill(0);
     verdict
 }

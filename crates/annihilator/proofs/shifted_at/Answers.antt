@@ -7,7 +7,7 @@ returns-then-e-i c =
     let a = c.args in
     sym (shifted_far a.row.now a.e a.i c.if-e-i.true)
 
-pub returns : goal.returns
-returns c =
+pub returns-else-e-i : goal.returns-else-e-i
+returns-else-e-i c =
     let a = c.args in
     sym (shifted_near a.row.now a.e a.i c.if-e-i.false)

@@ -1,10 +1,6 @@
-use mathlib.Core.Path.{◌≡◌, ap, subst, ◌∙◌}
-use mathlib.Core.List.{List}
-use Prim.Native.Nat.{ℕ, ◌+◌}
-use native.Mathlib.Nat.{zero-add}
-use Rattle.algebra.specs.Sequence.{at}
-use Rattle.algebra.proofs.Splicing.{laid_all}
-use Rattle.code.specs.Pass.{passed, marks_after, mended}
+use lib.ListN.{length}
+use mathlib.Core.Path.{◌∙◌}
+use native.Mathlib.Omega.{arith}
 use Rattle.copy_mending.proofs.Copying.{loaded}
 use Rattle.copy_mending.proofs.Mending.{mended_copy}
 use Rattle.copy_mending.proofs.mend_copy.Goals as goal
@@ -13,12 +9,9 @@ pub returns : goal.returns
 returns c =
     let a = c.args in
     let d = c.load in
-    let t = c.copy in
     let g = c.mend_groups in
-    let us = d.new.rests in
-    let m = laid_all a.marks.now (λ i. at a.marks.now (0 + i)) a.shape.n c.requires.1.marks (λ i h. ap (at a.marks.now) (zero-add i)) a.left.now t.new.target c.requires.3 t.ensures in
-    mended_copy a.shape a.word.now a.marks.now us g.new.word g.new.marks g.result c.requires.0.plain.family c.requires.1
-    (loaded a.shape.n a.word.now a.marks.now a.copy.now us d.ensures) (d.ensures.size ∙ c.requires.2)
-    (subst (λ (xs : List ℕ). g.new.word ≡ passed a.shape us xs) m g.ensures.0)
-    (subst (λ (xs : List ℕ). g.new.marks ≡ marks_after a.shape us xs) m g.ensures.1)
-    (subst (λ (xs : List ℕ). g.result ≡ mended a.shape us xs) m g.ensures.2)
+    let m = c.copy_from_slice.ensures.after in
+    let R = c.requires.1 in
+    mended_copy a.shape a.word.now a.marks.now d.new.rests g.new.word g.new.marks g.result c.requires.0.plain.family R
+    (λ p h k. loaded (length a.marks.now) a.word.now a.marks.now a.copy.now d.new.rests d.ensures p (omega (arith, R.marks)) k) (d.ensures.size ∙ c.requires.2)
+    (rw m at g.ensures.0) (rw m at g.ensures.1) (rw m at g.ensures.2)

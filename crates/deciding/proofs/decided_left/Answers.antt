@@ -1,13 +1,12 @@
 use mathlib.Core.Path.{sym, ap, ◌∙◌}
 use mathlib.Core.Bool.{not}
-use Prim.Native.Nat.{ℕ}
 use native.Mathlib.Omega.{arith}
-use lib.ListN.{take, replicate, length-replicate}
-use lib.Seq.{length-take-le}
+use lib.ListN.{take, replicate}
 use Rattle.code.specs.Decoding.{undecided}
 use Rattle.code.specs.Erasure.{lost_number}
 use Rattle.code.proofs.Bounds.{n_most}
 use Rattle.code.proofs.Repaired.{undecided_after, decided_within}
+use Rattle.fitting.proofs.Fronts.{front_size}
 use Rattle.deciding.proofs.decided_left.Goals as goal
 
 pub slice_bounds-word-end : goal.slice_bounds-word-end
@@ -15,7 +14,7 @@ slice_bounds-word-end c = omega (arith, n_most c.args.shape c.requires.0.plain.f
 
 pub slice_bounds-mend_groups-end : goal.slice_bounds-mend_groups-end
 slice_bounds-mend_groups-end c =
-    sym (length-take-le c.args.shape.n (replicate 256 0) (omega (arith, n_most c.args.shape c.requires.0.plain.family.placed, length-replicate {A = ℕ} 256 0)))
+    sym (front_size c.args.shape.n (omega (arith, n_most c.args.shape c.requires.0.plain.family.placed)))
 
 pub mend_groups-requires : goal.mend_groups-requires
 mend_groups-requires c =
@@ -23,7 +22,7 @@ mend_groups-requires c =
       c.requires.3,
       c.requires.4,
       c.requires.0,
-      length-take-le c.args.shape.n (replicate 256 0) (omega (arith, n_most c.args.shape P, length-replicate {A = ℕ} 256 0)),
+      front_size c.args.shape.n (omega (arith, n_most c.args.shape P)),
       c.requires.1,
     )
 

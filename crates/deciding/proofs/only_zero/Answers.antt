@@ -1,9 +1,7 @@
-use mathlib.Core.Path.{subst}
 use Prim.Native.Nat.{ℕ, ◌+◌, ◌*◌, ◌-◌, ◌<◌}
 use Rattle.code.proofs.Bounds.{n_most}
 use Rattle.fitting.proofs.Pointing.{pointed_all}
 use Rattle.fitting.proofs.Interpolating.{points_below, points_differ, sure_most}
-use Rattle.annihilator.specs.Annihilator.{Annihilated}
 use Rattle.deciding.specs.Step.{gaps}
 use Rattle.deciding.proofs.Polynomials.{most_byte, gaps_inside, kept_fewer, annulled}
 use Rattle.deciding.proofs.only_zero.Goals as goal
@@ -20,10 +18,10 @@ only_zero-requires c =
     let t = c.fill_points in
     let W = pointed_all a.shape L.plain.family.placed t.new.points t.ensures in
     let inside : (j : ℕ) → j < gaps a.shape → j * z.result + a.shape.r < a.shape.n - g.result
-    = rw z.ensures (gaps_inside a.shape L g.result g.ensures) in (
+    = rw z.ensures (gaps_inside a.shape L g.result g.ensures) in
+    rw c.requires.2 (
       n_most a.shape L.plain.family.placed,
       most_byte a.shape L g.result g.ensures,
-      c.requires.2,
       points_below a.shape L t.new.points W,
       points_differ a.shape L t.new.points W,
       kept_fewer a.shape L g.result g.ensures a.marks.now c.requires.3,
@@ -43,5 +41,4 @@ returns c =
     let o = c.only_zero in
     let xs = t.new.points in
     annulled a.shape L c.requires.1 g.result g.ensures xs (pointed_all a.shape L.plain.family.placed xs t.ensures) a.marks.now o.result
-    (subst (λ w. Annihilated a.shape.field a.shape.n w a.shape.r (gaps a.shape) (a.shape.n - g.result) xs a.marks.now o.result) z.ensures
-    o.ensures)
+    (rw (z.ensures, c.requires.2) at o.ensures)

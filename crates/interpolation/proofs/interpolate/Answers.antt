@@ -10,9 +10,6 @@ use Rattle.interpolation.proofs.Marks.{masked_below, kept_enough}
 use Rattle.interpolation.proofs.Uniqueness.{interpolated}
 use Rattle.interpolation.proofs.interpolate.Goals as goal
 
-pub load-requires : goal.load-requires
-load-requires c = (omega (arith, c.requires.0, length-replicate {A = ℕ} 256 0), c.requires.1, c.requires.2)
-
 pub settle-i-requires : goal.settle-i-requires
 settle-i-requires c =
     let a = c.args in
@@ -22,12 +19,11 @@ settle-i-requires c =
       at_zeros 256,
       l,
       c.requires.0,
-      c.requires.2,
-      record { below = c.requires.3; differ = c.requires.4 },
-      λ p h. rw (d.ensures.put p (omega arith) h) (masked_below (q a.field) (at a.word.now p) (at a.marks.now p) (zero_below a.field) (c.requires.5 p h)),
-      kept_enough a.marks.now a.n a.most c.requires.6,
+      record { below = c.requires.2; differ = c.requires.3 },
+      λ p h. rw (d.ensures.put p (omega arith) h) (masked_below (q a.field) (at a.word.now p) (at a.marks.now p) (zero_below a.field) (c.requires.4 p h)),
+      kept_enough a.marks.now (length a.marks.now) a.most c.requires.5,
+      c.requires.6,
       c.requires.7,
-      c.requires.8,
     )
 
 pub returns : goal.returns
@@ -35,5 +31,5 @@ returns c =
     let a = c.args in
     let d = c.load in
     let e = c.settle-i in
-    interpolated a.field a.n a.most a.points.now a.word.now a.marks.now d.new.rests e.new.coefs e.new.rests
-    e.result c.requires.0 record { below = c.requires.3; differ = c.requires.4 } (λ p h. d.ensures.put p (omega arith) h) e.ensures c.agree.result c.agree.ensures
+    interpolated a.field (length a.marks.now) a.most a.points.now a.word.now a.marks.now d.new.rests e.new.coefs e.new.rests
+    e.result c.requires.0 record { below = c.requires.2; differ = c.requires.3 } (λ p h. d.ensures.put p (omega arith) h) e.ensures c.agree.result c.agree.ensures

@@ -8,11 +8,7 @@ returns-then-lost c =
     let a = c.args in
     sym (masked_lost (at a.word.now a.p) (at a.marks.now a.p) c.if-lost.true)
 
--- a kept place is in the word
-pub bounds-word-p : goal.bounds-word-p
-bounds-word-p c = c.requires.1 c.if-lost.false
-
-pub returns : goal.returns
-returns c =
+pub returns-else-lost : goal.returns-else-lost
+returns-else-lost c =
     let a = c.args in
     sym (masked_kept (at a.word.now a.p) (at a.marks.now a.p) c.if-lost.false)
