@@ -1,7 +1,7 @@
 -- Elimination in the buffer: a row operation keeps the solutions, and the newcomer goes from column to column. Assumes nothing.
 --   skipped, reduced, joined           one column: the newcomer is 0 there, is reduced by row j, becomes row j
 --   same_none, same_more, ready_more   one column after the other
---   placed_in, placed_none, placed_never, inserted
+--   placed_in, placed_last, inserted
 use mathlib.Core.Path.{◌≡◌, sym, ap, ap₂, ◌∙◌}
 use mathlib.Core.Logic.{◌≢◌}
 use mathlib.Core.Bool.{Bool, true, false}
@@ -9,6 +9,8 @@ use mathlib.Core.List.{List}
 use Prim.Native.Nat.{ℕ, ◌+◌, ◌*◌, ◌-◌, ◌≤◌, ◌<◌}
 use native.Mathlib.Decide.{ℕ_discrete}
 use native.Mathlib.Omega.{arith}
+use borrow.Author.Tests.{eq-eqb, ne_eqb}
+use lib.Dec.{eqb}
 use lib.ListN.{length, set}
 use lib.Seq.{get_or-set_same, get_or-set_other}
 use Rattle.algebra.specs.Sequence.{at}
@@ -250,10 +252,10 @@ value_const f k b R ys v =
     ∙ ap (λ x. x.0) (defect_const (ring_of f) k (rows f k b k) (el_at f ys) (λ m h. ap (el f) (R.zeros m h) ∙ el_zero f))
     ∙ el_is f (entry k b k k) (R.below k (omega arith))
 
-pub placed_none : (f k : ℕ) (a b : List ℕ) → SameSolutions f k a b → Ready f k k b → entry k b k k ≡ 0 → WentThroughAll f k a b true
+placed_none : (f k : ℕ) (a b : List ℕ) → SameSolutions f k a b → Ready f k k b → entry k b k k ≡ 0 → WentThroughAll f k a b true
 placed_none f k a b S R e = placed f k a b (unzeroed f k k b R) S (λ ys v s. value_const f k b R ys v ∙ e)
 
-pub placed_never : (f k : ℕ) (a b : List ℕ) → SameSolutions f k a b → Ready f k k b → entry k b k k ≢ 0 → WentThroughAll f k a b false
+placed_never : (f k : ℕ) (a b : List ℕ) → SameSolutions f k a b → Ready f k k b → entry k b k k ≢ 0 → WentThroughAll f k a b false
 placed_never f k a b S R n =
     record {
       ready = unzeroed f k k b R;
@@ -261,6 +263,14 @@ placed_never f k a b S R n =
       stays = λ e. differ (sym e);
       never = λ _ ys v s. n (sym (value_const f k b R ys v) ∙ S.on ys v s k (omega arith));
     }
+
+-- what is left of the newcomer is its constant: it is among the rows just where that is 0
+pub placed_last : (f k : ℕ) (a b : List ℕ) → SameSolutions f k a b → Ready f k k b → WentThroughAll f k a b (eqb (entry k b k k) 0)
+placed_last f k a b S R = go (ℕ_discrete (entry k b k k) 0)
+  where
+    go : Dec (entry k b k k ≡ 0) → WentThroughAll f k a b (eqb (entry k b k k) 0)
+    go (yes e) = rw (eq-eqb (entry k b k k) 0 e) (placed_none f k a b S R e)
+    go (no n) = rw (ne_eqb (entry k b k k) 0 n) (placed_never f k a b S R n)
 
 -- the newcomer with its constant
 module _ (f k v : ℕ) (a b : List ℕ) (E : Echelon f k a) (small : (m : ℕ) → m < k → entry k a k m < q f) (hv : v < q f)
