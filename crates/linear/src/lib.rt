@@ -125,7 +125,7 @@ fn back(
     requires { Echelon field k work.now × (length solution.old ≡ k) × Powers 1 powers.now × Logs logs.now }
     ensures { Backed field k work.now solution.new }
 {
-    copying::clear(solution);
+    solution.fill(0);
     for j in (0..k).rev() {
         let v = value(field, work, j, k, solution, powers, logs);
         solution[j] = v;

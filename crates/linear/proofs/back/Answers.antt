@@ -7,9 +7,9 @@ use Rattle.linear.proofs.back.Goals as goal
 
 pub loop-j-init : goal.loop-j-init
 loop-j-init c =
-    let t = c.clear in
+    let t = c.fill in
     let e : length c.args.solution.now ≡ c.args.k = c.requires.1 in
-    backing_none c.args.field c.args.k c.args.work.now t.new.s (t.auto.s ∙ e) (rw e at t.ensures)
+    backing_none c.args.field c.args.k c.args.work.now t.new.self (t.auto.self ∙ e) (rw e at (t.ensures.after (λ y h. h)))
 
 pub loop-j-preserved : goal.loop-j-preserved
 loop-j-preserved c =
