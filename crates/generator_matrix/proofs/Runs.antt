@@ -1,13 +1,11 @@
 -- Runs and blocks of values, one behind the other. Assumes nothing.
 --   run_none, run_more                          the first value of a run, and the next
 --   written_on                                  two stretches of a buffer, one behind the other
---   least_some                                  the lesser of two that are not 0
 --   Filling f x d e r to m head a z             == blocks are written up to m, and the next one starts with head
 --   filling_none, filling_more, filling_done    nothing yet; a run more; all of them
 use mathlib.Core.Path.{◌≡◌, sym, ap, ap₂, ◌∙◌}
-use mathlib.Core.Logic.{◌⊎◌, inl, inr}
 use mathlib.Core.List.{List}
-use Prim.Native.Nat.{ℕ, suc, ◌+◌, ◌*◌, ◌-◌, ◌/◌, ◌%◌, ◌≤◌, ◌<◌}
+use Prim.Native.Nat.{ℕ, suc, min, ◌+◌, ◌*◌, ◌-◌, ◌/◌, ◌%◌, ◌≤◌, ◌<◌}
 use native.Mathlib.Nat.{div-add-mod', add-div_right, add-mod_right, zero-div, zero-mod}
 use native.Mathlib.Decide.{dec_lt}
 use native.Mathlib.Omega.{arith}
@@ -50,10 +48,6 @@ written_on g h from m to a b z l k e A W =
     go p i j (yes d) = W.before p d ∙ A.put p i d
     go p i j (no d) = W.put p (omega arith) j ∙ e p (omega arith) j
 
-pub least_some : (w a b : ℕ) → 1 ≤ a → 1 ≤ b → (w ≡ a) ⊎ (w ≡ b) → 1 ≤ w
-least_some w a b h l (inl e) = omega arith
-least_some w a b h l (inr e) = omega arith
-
 pub record Filling (f x d e r to m head : ℕ) (a z : List ℕ) : Type 0 where
   pub most : m ≤ to
   pub full : m < to → m % r ≡ 0
@@ -83,23 +77,22 @@ module _ (f x d e r to : ℕ) (some : 1 ≤ r) (a : List ℕ) where
         ap₂ (times f) (F.first l ∙ ap (λ n. power f d (e + n)) u) (ap (power f x) v)
 
     -- the next block: it is full, or the end is reached
-    pub filling_more : (w next y : ℕ) → w ≤ r → w ≤ to - m → (w ≡ r) ⊎ (w ≡ to - m) → next ≡ m + w → y ≡ times f d head
+    pub filling_more : (w next y : ℕ) → w ≡ min r (to - m) → next ≡ m + w → y ≡ times f d head
         → Written (run f x head m) m next b z → Filling f x d e r to next y a z
     unfolding power
-    filling_more w next y i j c n t W =
+    filling_more w next y c n t W =
         record {
           most = omega arith;
-          full = λ k. ap (λ o. o % r) (on k c) ∙ add-mod_right m r ∙ F.full l;
+          full = λ k. ap (λ o. o % r) (on k) ∙ add-mod_right m r ∙ F.full l;
           first = λ k. t ∙ ap (times f d) (F.first l) ∙ ap (power f d) (more k);
           done = written_on (blocks f x d e r) (run f x head m) 0 m next a b z (omega arith) (omega arith) (λ p g h. block_is p g (omega arith)) F.done W;
         }
       where
-        on : next < to → (w ≡ r) ⊎ (w ≡ to - m) → next ≡ m + r
-        on k (inl s) = omega arith
-        on k (inr s) = absurd (omega arith)
+        on : next < to → next ≡ m + r
+        on k = omega arith
 
         more : next < to → suc (e + m / r) ≡ e + next / r
-        more k = omega (arith, ap (λ o. o / r) (on k c), add-div_right m some)
+        more k = omega (arith, ap (λ o. o / r) (on k), add-div_right m some)
 
   pub filling_done : (m head : ℕ) (z : List ℕ) → to ≤ m → Filling f x d e r to m head a z → Written (blocks f x d e r) 0 to a z
   filling_done m head z l F = writing_done l (record { least = omega arith; most = F.most; done = F.done })

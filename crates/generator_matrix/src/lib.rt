@@ -1,7 +1,7 @@
 // The generator matrix, row by row: a slot's row has the values of the basis polynomials at its point.
 #![tactic(auto)]
 
-ghost use Rattle.std.specs.Prelude.{◌≡◌, ◌⊎◌, ◌<◌, ◌≤◌, length};
+ghost use Rattle.std.specs.Prelude.{◌≡◌, ◌<◌, ◌≤◌, length};
 ghost use Rattle.algebra.specs.Writing.{Written};
 ghost use Rattle.field.specs.Field.{q, power};
 ghost use Rattle.field.specs.Table.{Powers, Logs};
@@ -19,20 +19,11 @@ pub fn vanishing_at(shape: Shape, x: u8, powers: &[u8; 255], logs: &[u8; 256]) -
 {
     let field = shape.field;
     let mut product: u8 = 1;
-    let mut i = layout::missing_of(shape);
-    while i > 0 {
-        i -= 1;
+    for i in (0..layout::missing_of(shape)).rev() {
         let factor = arithmetic::sub(field, x, layout::point_of(shape, shape.n + i, powers));
         product = arithmetic::mul(field, factor, product, powers, logs);
     }
     product
-}
-
-// The lesser of two.
-fn least(a: usize, b: usize) -> usize
-    ensures { (result ≤ a) × (result ≤ b) × ((result ≡ a) ⊎ (result ≡ b)) }
-{
-    if a < b { a } else { b }
 }
 
 // Writes head, head times x, head times x squared .. from `from` up to `to`.
@@ -50,11 +41,9 @@ pub fn fill_run(
     ensures { Written (run field x head from) from to row.old row.new }
 {
     let mut value = head;
-    let mut m = from;
-    while m < to {
+    for m in from..to {
         row[m] = value;
         value = arithmetic::mul(field, x, value, powers, logs);
-        m += 1;
     }
 }
 
@@ -76,7 +65,7 @@ fn fill_blocks(
     let mut head = arithmetic::power_of(field, factor, e, powers, logs);
     let mut m: usize = 0;
     while m < to {
-        let end = m + least(r, to - m);
+        let end = m + r.min(to - m);
         fill_run(field, x, head, row, m, end, powers, logs);
         head = arithmetic::mul(field, factor, head, powers, logs);
         m = end;

@@ -9,12 +9,6 @@ loop-m-init c =
     let a = c.args in
     (run_none a.field a.x a.head a.from c.requires.2 c.requires.3, writing_none c.requires.4)
 
-pub bounds-row-m : goal.bounds-row-m
-bounds-row-m c = omega (arith, c.loop-m.invariant.1.done.size)
-
-pub mul-value-requires : goal.mul-value-requires
-mul-value-requires c = (c.requires.0, c.requires.1)
-
 pub loop-m-preserved : goal.loop-m-preserved
 loop-m-preserved c =
     let a = c.args in
@@ -22,9 +16,3 @@ loop-m-preserved c =
       run_more a.field a.x a.head a.from c.requires.2 c.requires.3 l.m l.value c.mul-value.result l.invariant.1.least l.invariant.0 c.mul-value.ensures,
       writing_more c.loop-m-test.true c.requires.5 l.invariant.0 l.invariant.1,
     )
-
-pub shape_of-row : goal.shape_of-row
-shape_of-row c = c.loop-m.invariant.1.done.size
-
-pub returns : goal.returns
-returns c = writing_done c.loop-m-test.false c.loop-m.invariant.1

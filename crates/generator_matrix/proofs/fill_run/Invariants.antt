@@ -7,6 +7,3 @@ use Rattle.generator_matrix.proofs.fill_run.Given as goal
 abbrev pub invariant-loop-m : goal.invariant-loop-m
 invariant-loop-m l =
     (l.value ≡ run l.field l.x l.head l.from l.m) × Writing (run l.field l.x l.head l.from) l.from l.to l.m l.initial.row l.row
-
-abbrev pub decreases-loop-m : goal.decreases-loop-m
-decreases-loop-m l = l.to - l.m
