@@ -63,12 +63,9 @@ fn fill_blocks(
     ensures { Written (blocks field x factor e r) 0 to row.old row.new }
 {
     let mut head = arithmetic::power_of(field, factor, e, powers, logs);
-    let mut m: usize = 0;
-    while m < to {
-        let end = m + r.min(to - m);
-        fill_run(field, x, head, row, m, end, powers, logs);
+    for m in (0..to).step_by(r) {
+        fill_run(field, x, head, row, m, m + r.min(to - m), powers, logs);
         head = arithmetic::mul(field, factor, head, powers, logs);
-        m = end;
     }
 }
 

@@ -1,6 +1,4 @@
-use Prim.Native.Nat.{◌-◌}
-use native.Mathlib.Omega.{arith}
-use Rattle.algebra.proofs.Writing.{writing_none, writing_more, writing_done}
+use Rattle.algebra.proofs.Writing.{writing_none, writing_more}
 use Rattle.generator_matrix.proofs.Runs.{run_none, run_more}
 use Rattle.generator_matrix.proofs.fill_run.Goals as goal
 

@@ -1,5 +1,4 @@
 use mathlib.Core.Path.{◌≡◌}
-use Prim.Native.Nat.{◌-◌}
 use Rattle.algebra.proofs.Writing.{Writing}
 use Rattle.generator_matrix.specs.Step.{run}
 use Rattle.generator_matrix.proofs.fill_run.Given as goal

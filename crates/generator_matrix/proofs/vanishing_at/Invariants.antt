@@ -1,5 +1,5 @@
 use mathlib.Core.Path.{◌≡◌}
-use Prim.Native.Nat.{◌+◌, ◌-◌, ◌≤◌}
+use Prim.Native.Nat.{◌+◌, ◌-◌}
 use Rattle.code.specs.Shape.{missing}
 use Rattle.code.specs.Basis.{vanish_from}
 use Rattle.generator_matrix.proofs.vanishing_at.Given as goal
