@@ -24,7 +24,7 @@ fn start(j: usize, w: usize) -> usize
     ensures { result ≤ j }
 {
     let rest = (32 - (w - j) % 32) % 32;
-    if j < rest { 0 } else { j - rest }
+    j.saturating_sub(rest)
 }
 
 // The factor that makes a row which starts with h start with -1.
