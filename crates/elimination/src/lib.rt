@@ -48,14 +48,11 @@ fn gather(
     requires { Plain shape × Received shape word.now marks.now × (work_size shape ≤ length work.old) × Powers 1 powers.now × Logs logs.now }
     ensures { Gathered shape word.now marks.now work.new result }
 {
-    copying::clear(work);
-    let n = shape.n;
-    let mut p: u32 = 0;
-    while p < n {
+    work.fill(0);
+    for p in 0..shape.n {
         if !take_slot(shape, p, word, marks, work, powers, logs) {
             return false;
         }
-        p += 1;
     }
     true
 }
@@ -74,12 +71,12 @@ pub fn solve_beyond(
     ensures { Verdict shape word.now marks.now message.old message.new result × (work.new ≡ replicate (length work.old) 0) }
 {
     if !gather(shape, word, marks, work, powers, logs) {
-        copying::clear(work);
+        work.fill(0);
         return 9;
     }
     let k = shape.k as usize;
     let one = linear::finish(shape.field, work, k, message, powers, logs);
-    copying::clear(work);
+    work.fill(0);
     if one {
         return 0;
     }

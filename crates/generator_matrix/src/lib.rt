@@ -1,8 +1,8 @@
 // The generator matrix, row by row: a slot's row has the values of the basis polynomials at its point.
 #![tactic(auto)]
 
-ghost use Rattle.std.specs.Prelude.{◌≡◌, ◌⊎◌, ◌<◌, ◌≤◌, length};
-ghost use Rattle.algebra.specs.Writing.{Written};
+ghost use Rattle.std.specs.Prelude.{◌≡◌, ◌<◌, ◌≤◌, length};
+ghost use Rattle.algebra.specs.Sequence.{tabulate};
 ghost use Rattle.field.specs.Field.{q, power};
 ghost use Rattle.field.specs.Table.{Powers, Logs};
 ghost use Rattle.code.specs.Basis.{vanishing};
@@ -19,46 +19,26 @@ pub fn vanishing_at(shape: Shape, x: u8, powers: &[u8; 255], logs: &[u8; 256]) -
 {
     let field = shape.field;
     let mut product: u8 = 1;
-    let mut i = layout::missing_of(shape);
-    while i > 0 {
-        i -= 1;
+    for i in (0..layout::missing_of(shape)).rev() {
         let factor = arithmetic::sub(field, x, layout::point_of(shape, shape.n + i, powers));
         product = arithmetic::mul(field, factor, product, powers, logs);
     }
     product
 }
 
-// The lesser of two.
-fn least(a: usize, b: usize) -> usize
-    ensures { (result ≤ a) × (result ≤ b) × ((result ≡ a) ⊎ (result ≡ b)) }
-{
-    if a < b { a } else { b }
-}
-
-// Writes head, head times x, head times x squared .. from `from` up to `to`.
-pub fn fill_run(
-    field: u32,
-    x: u8,
-    head: u8,
-    row: &mut [u8],
-    from: usize,
-    to: usize,
-    powers: &[u8; 255],
-    logs: &[u8; 256],
-)
-    requires { Powers 1 powers.now × Logs logs.now × (x < q field) × (head < q field) × (from ≤ to) × (to ≤ length row.old) }
-    ensures { Written (run field x head from) from to row.old row.new }
+// Writes head, head times x, head times x squared .. to the row.
+pub fn fill_run(field: u32, x: u8, head: u8, row: &mut [u8], powers: &[u8; 255], logs: &[u8; 256])
+    requires { Powers 1 powers.now × Logs logs.now × (x < q field) × (head < q field) }
+    ensures { row.new ≡ tabulate (run field x head 0) (length row.old) }
 {
     let mut value = head;
-    let mut m = from;
-    while m < to {
-        row[m] = value;
+    for entry in row.iter_mut() {
+        *entry = value;
         value = arithmetic::mul(field, x, value, powers, logs);
-        m += 1;
     }
 }
 
-// Writes runs of r, up to `to`: the first has the power e of factor for its head, and each next head is factor times the one before.
+// Writes runs of r: the first has the power e of factor for its head, and each next head is factor times the one before.
 fn fill_blocks(
     field: u32,
     x: u8,
@@ -66,24 +46,22 @@ fn fill_blocks(
     e: u32,
     r: usize,
     row: &mut [u8],
-    to: usize,
     powers: &[u8; 255],
     logs: &[u8; 256],
 )
-    requires { Powers 1 powers.now × Logs logs.now × (x < q field) × (factor < q field) × (1 ≤ r) × (to ≤ length row.old) }
-    ensures { Written (blocks field x factor e r) 0 to row.old row.new }
+    requires { Powers 1 powers.now × Logs logs.now × (x < q field) × (factor < q field) × (1 ≤ r) }
+    ensures { row.new ≡ tabulate (blocks field x factor e r) (length row.old) }
 {
     let mut head = arithmetic::power_of(field, factor, e, powers, logs);
-    let mut m: usize = 0;
-    while m < to {
-        let end = m + least(r, to - m);
-        fill_run(field, x, head, row, m, end, powers, logs);
+    for m in (0..row.len()).step_by(r) {
+        let end = m + r.min(row.len() - m);
+        fill_run(field, x, head, &mut row[m..end], powers, logs);
         head = arithmetic::mul(field, factor, head, powers, logs);
-        m = end;
     }
 }
 
 // Writes slot's row of the generator matrix to the first k bytes of row.
+#[tactic(auto, using(crate::proofs::Generators::lead_worked))]
 pub fn fill_row(shape: Shape, slot: u32, row: &mut [u8], powers: &[u8; 255], logs: &[u8; 256])
     requires { Powers 1 powers.now × Logs logs.now × Plain shape × (slot < shape.n) × (shape.k ≤ length row.old) }
     ensures { GeneratorRow shape slot row.old row.new }
@@ -95,12 +73,12 @@ pub fn fill_row(shape: Shape, slot: u32, row: &mut [u8], powers: &[u8; 255], log
     let power = layout::group_power(shape, layout::group_of(shape, slot), powers);
     let missing = layout::missing_of(shape) as usize;
     if missing == 0 {
-        fill_blocks(field, x, power, 0, r, row, k, powers, logs);
+        fill_blocks(field, x, power, 0, r, &mut row[..k], powers, logs);
         return;
     }
     let good = arithmetic::sub(field, power, layout::constant_of(shape, powers));
     let vanishing = vanishing_at(shape, x, powers, logs);
     let lead = k + missing - r;
-    fill_blocks(field, x, good, 1, r, row, lead, powers, logs);
-    fill_run(field, x, vanishing, row, lead, k, powers, logs);
+    fill_blocks(field, x, good, 1, r, &mut row[..lead], powers, logs);
+    fill_run(field, x, vanishing, &mut row[lead..k], powers, logs);
 }

@@ -1,7 +1,7 @@
 -- Elimination in the buffer: a row operation keeps the solutions, and the newcomer goes from column to column. Assumes nothing.
---   skipped, reduced, joined           one column: the newcomer is 0 there, is reduced by row j, becomes row j
---   same_none, same_more, ready_more   one column after the other
---   placed_in, placed_none, placed_never, inserted
+--   reduced, joined                    one column: the newcomer is reduced by row j, becomes row j
+--   same_more                          one column after the other
+--   placed_last, inserted
 use mathlib.Core.Path.{◌≡◌, sym, ap, ap₂, ◌∙◌}
 use mathlib.Core.Logic.{◌≢◌}
 use mathlib.Core.Bool.{Bool, true, false}
@@ -9,6 +9,8 @@ use mathlib.Core.List.{List}
 use Prim.Native.Nat.{ℕ, ◌+◌, ◌*◌, ◌-◌, ◌≤◌, ◌<◌}
 use native.Mathlib.Decide.{ℕ_discrete}
 use native.Mathlib.Omega.{arith}
+use borrow.Author.Tests.{eq-eqb, ne_eqb}
+use lib.Dec.{eqb}
 use lib.ListN.{length, set}
 use lib.Seq.{get_or-set_same, get_or-set_other}
 use Rattle.algebra.specs.Sequence.{at}
@@ -79,20 +81,6 @@ module _ (f k : ℕ) (a b : List ℕ) (d s c : ℕ) (n : d ≢ s) (hd : d ≤ k)
           go : Dec (i ≡ d) → residue f k a i ys ≡ 0
           go (yes p) = rw p (sym (value_kept ys v src) ∙ F d hd)
           go (no p) = sym (value_other i ys h p v) ∙ F i h
-
--- the newcomer is 0 at j already
-pub skipped : (f k j : ℕ) (a : List ℕ) → Ready f k j a → entry k a k j ≡ 0 → WentThrough f k j a a false
-skipped f k j a R e =
-    record {
-      ready = unzeroed f k j a R;
-      zeros = λ _ m h. go m h (ℕ_discrete m j);
-      same = record { on = λ y h s. s; back = λ y h s. s };
-      spare = λ n. differ (sym n);
-    }
-  where
-    go : (m : ℕ) → m < j + 1 → Dec (m ≡ j) → entry k a k m ≡ 0
-    go m h (yes p) = rw p e
-    go m h (no p) = R.zeros m (omega arith)
 
 -- row j starts at j: it takes the newcomer's first coefficient off
 module _ (f k j s : ℕ) (a b : List ℕ) (hj : j < k) (hs : s ≤ j) (R : Ready f k j a) (len : length b ≡ length a)
@@ -214,14 +202,8 @@ module _ (f k j s : ℕ) (a b : List ℕ) (hj : j < k) (hs : s ≤ j) (R : Ready
       }
 
 -- one column after the other
-pub same_none : (f k : ℕ) (a : List ℕ) → SameSolutions f k a a
-same_none f k a = record { on = λ y h s. s; back = λ y h s. s }
-
 pub same_more : (f k : ℕ) (a b c : List ℕ) → SameSolutions f k a b → SameSolutions f k b c → SameSolutions f k a c
 same_more f k a b c S T = record { on = λ y h s. T.on y h (S.on y h s); back = λ y h s. S.back y h (T.back y h s) }
-
-pub ready_more : (f k j : ℕ) (r : Bool) (a b : List ℕ) → WentThrough f k j a b r → r ≡ false → Ready f k (j + 1) b
-ready_more f k j r a b S e = record { echelon = S.ready.echelon; below = S.ready.below; zeros = S.zeros e }
 
 all_solved : (f k : ℕ) (b ys : List ℕ) → Solved f k b ys → residue f k b k ys ≡ 0 → AllSolved f k b ys
 all_solved f k b ys s z i h = go (ℕ_discrete i k)
@@ -240,9 +222,6 @@ placed f k a b R S z =
       never = λ e. differ e;
     }
 
-pub placed_in : (f k j : ℕ) (r : Bool) (a b c : List ℕ) → SameSolutions f k a b → WentThrough f k j b c r → r ≡ true → WentThroughAll f k a c true
-placed_in f k j r a b c S T e = placed f k a c T.ready (same_more f k a b c S T.same) (T.spare e)
-
 -- no coefficient is left
 value_const : (f k : ℕ) (b : List ℕ) → Ready f k k b → (ys : List ℕ) → Vector f k ys → residue f k b k ys ≡ entry k b k k
 value_const f k b R ys v =
@@ -250,10 +229,10 @@ value_const f k b R ys v =
     ∙ ap (λ x. x.0) (defect_const (ring_of f) k (rows f k b k) (el_at f ys) (λ m h. ap (el f) (R.zeros m h) ∙ el_zero f))
     ∙ el_is f (entry k b k k) (R.below k (omega arith))
 
-pub placed_none : (f k : ℕ) (a b : List ℕ) → SameSolutions f k a b → Ready f k k b → entry k b k k ≡ 0 → WentThroughAll f k a b true
+placed_none : (f k : ℕ) (a b : List ℕ) → SameSolutions f k a b → Ready f k k b → entry k b k k ≡ 0 → WentThroughAll f k a b true
 placed_none f k a b S R e = placed f k a b (unzeroed f k k b R) S (λ ys v s. value_const f k b R ys v ∙ e)
 
-pub placed_never : (f k : ℕ) (a b : List ℕ) → SameSolutions f k a b → Ready f k k b → entry k b k k ≢ 0 → WentThroughAll f k a b false
+placed_never : (f k : ℕ) (a b : List ℕ) → SameSolutions f k a b → Ready f k k b → entry k b k k ≢ 0 → WentThroughAll f k a b false
 placed_never f k a b S R n =
     record {
       ready = unzeroed f k k b R;
@@ -261,6 +240,14 @@ placed_never f k a b S R n =
       stays = λ e. differ (sym e);
       never = λ _ ys v s. n (sym (value_const f k b R ys v) ∙ S.on ys v s k (omega arith));
     }
+
+-- what is left of the newcomer is its constant: it is among the rows just where that is 0
+pub placed_last : (f k : ℕ) (a b : List ℕ) → SameSolutions f k a b → Ready f k k b → WentThroughAll f k a b (eqb (entry k b k k) 0)
+placed_last f k a b S R = go (ℕ_discrete (entry k b k k) 0)
+  where
+    go : Dec (entry k b k k ≡ 0) → WentThroughAll f k a b (eqb (entry k b k k) 0)
+    go (yes e) = rw (eq-eqb (entry k b k k) 0 e) (placed_none f k a b S R e)
+    go (no n) = rw (ne_eqb (entry k b k k) 0 n) (placed_never f k a b S R n)
 
 -- the newcomer with its constant
 module _ (f k v : ℕ) (a b : List ℕ) (E : Echelon f k a) (small : (m : ℕ) → m < k → entry k a k m < q f) (hv : v < q f)

@@ -1,5 +1,4 @@
--- Rows of a buffer: where they stand, and what a row operation writes. Assumes nothing.
---   rows_apart                 rows lie behind each other
+-- Rows of a buffer: what a row operation writes. Assumes nothing.
 --   added_more                 a row operation, one column more
 --   row_others, row_put        the same on whole rows, where the columns before the first written are 0
 use mathlib.Core.Path.{◌≡◌, sym, ap, ap₂, ◌∙◌}
@@ -18,13 +17,6 @@ use Rattle.field.proofs.Laws.{laws}
 use Rattle.field.proofs.Elem.{times_zero}
 use Rattle.linear.specs.System.{entry}
 use Rattle.linear.specs.Step.{Added, Apart}
-
-pub rows_apart : (k i j c : ℕ) → i ≢ j → Apart (i * (k + 1) + c) (j * (k + 1) + c) (k + 1 - c)
-rows_apart k i j c n m p hm hp e = go (dec_lt i j)
-  where
-    go : Dec (i < j) → ⊥
-    go (yes h) = omega (arith, row_step i j (k + 1) h)
-    go (no h) = let g : j < i = omega arith in omega (arith, row_step j i (k + 1) g)
 
 pub added_more : (f : ℕ) (a b : List ℕ) (d s len c m v : ℕ) → Added f a b d s m c → m < len → Apart d s len → d + len ≤ length b
     → v ≡ plus f (at b (d + m)) (times f c (at b (s + m))) → Added f a (set b (d + m) v) d s (m + 1) c

@@ -1,7 +1,7 @@
 // Linear equations over a field, solved in a lent buffer. Rows 0 to k - 1 are in echelon form; row k is the newcomer.
 #![tactic(auto)]
 
-ghost use Rattle.std.specs.Prelude.{◌≡◌, ℕ, ◌+◌, ◌*◌, ◌<◌, ◌≤◌, length};
+ghost use Rattle.std.specs.Prelude.{◌≡◌, ℕ, ◌+◌, ◌*◌, ◌<◌, ◌≤◌, length, MatchOption};
 ghost use Rattle.field.specs.Field.{q, minus, inverse};
 ghost use Rattle.field.specs.Table.{Powers, Logs};
 ghost use Rattle.linear.specs.System.{entry, residue, Echelon, Inserted, Finished};
@@ -12,11 +12,9 @@ pub fn add_row(field: u32, work: &mut [u8], dst: usize, src: usize, len: usize, 
     requires { (dst + len ≤ length work.old) × (src + len ≤ length work.old) × Apart dst src len }
     ensures { Added field work.old work.new dst src len c }
 {
-    let mut m: usize = 0;
-    while m < len {
+    for m in 0..len {
         let v = arithmetic::product(field, c, work[src + m]);
         work[dst + m] = arithmetic::add(field, work[dst + m], v);
-        m += 1;
     }
 }
 
@@ -26,7 +24,7 @@ fn start(j: usize, w: usize) -> usize
     ensures { result ≤ j }
 {
     let rest = (32 - (w - j) % 32) % 32;
-    if j < rest { 0 } else { j - rest }
+    j.saturating_sub(rest)
 }
 
 // The factor that makes a row which starts with h start with -1.
@@ -72,17 +70,12 @@ fn place(field: u32, work: &mut [u8], k: usize, powers: &[u8; 255], logs: &[u8; 
     requires { Ready field k 0 work.old × Powers 1 powers.now × Logs logs.now }
     ensures { WentThroughAll field k work.old work.new result }
 {
-    let mut j: usize = 0;
-    while j < k {
+    for j in 0..k {
         if step(field, work, k, j, powers, logs) {
             return true;
         }
-        j += 1;
     }
-    if work[k * (k + 1) + k] == 0 {
-        return true;
-    }
-    false
+    work[k * (k + 1) + k] == 0
 }
 
 // Inserts the equation of the newcomer's coefficients and the right side v: false where no solution is left.
@@ -132,28 +125,24 @@ fn back(
     requires { Echelon field k work.now × (length solution.old ≡ k) × Powers 1 powers.now × Logs logs.now }
     ensures { Backed field k work.now solution.new }
 {
-    copying::clear(solution);
-    let mut j = k;
-    while j > 0 {
-        j -= 1;
+    solution.fill(0);
+    for j in (0..k).rev() {
         let v = value(field, work, j, k, solution, powers, logs);
         solution[j] = v;
     }
 }
 
-// The first bare row, or k.
-fn bare(work: &[u8], k: usize) -> usize
+// The first bare row, if there is one.
+fn bare(work: &[u8], k: usize) -> Option<usize>
     requires { k * (k + 1) + (k + 1) ≤ length work.now }
-    ensures { Bared k work.now result }
+    ensures { MatchOption result (Bared k work.now k) (λ j. (j < k) × Bared k work.now j) }
 {
-    let mut j: usize = 0;
-    while j < k {
+    for j in 0..k {
         if work[j * (k + 1) + j] == 0 {
-            return j;
+            return Some(j);
         }
-        j += 1;
     }
-    k
+    None
 }
 
 // True where there is just one solution, which is then written; else the solution stays as it was.
@@ -168,10 +157,11 @@ pub fn finish(
     requires { Echelon field k work.now × (length solution.old ≡ k) × Powers 1 powers.now × Logs logs.now }
     ensures { Finished field k work.now solution.old solution.new result }
 {
-    let j = bare(work, k);
-    if j < k {
-        return false;
+    match bare(work, k) {
+        Some(_) => false,
+        None => {
+            back(field, work, k, solution, powers, logs);
+            true
+        }
     }
-    back(field, work, k, solution, powers, logs);
-    true
 }

@@ -1,6 +1,7 @@
 -- Terms and weights of the checks, as they are worked out. Assumes nothing.
 --   scale_whole, scale_short, scale_below    the factor of every term
 --   run_terms                     a run from the factor on is terms
+--   terms_part                    terms in a part of a buffer
 --   Upto, upto_none, upto_more, upto_done    the terms of the first mates, of one more, and the slot's own
 --   entry, entry_is               a weight from the repair weights and the terms
 --   length_checks, check_dotted   the sum of a check by the array of its weights
@@ -13,11 +14,12 @@ use Prim.Native.Nat.{ℕ, ◌+◌, ◌*◌, ◌-◌, ◌≤◌, ◌<◌}
 use native.Mathlib.Decide.{ℕ_discrete}
 use native.Mathlib.Omega.{arith}
 use lib.Dec.{eqb}
-use lib.ListN.{length, take, length-map}
-use Rattle.algebra.specs.Sequence.{at}
-use Rattle.algebra.specs.Writing.{Written, Laid}
+use lib.ListN.{length, take, drop, length-map}
+use Rattle.algebra.specs.Sequence.{at, tabulate}
+use Rattle.algebra.specs.Writing.{Laid}
 use Rattle.algebra.proofs.At.{at_map}
-use Rattle.algebra.proofs.Tabulate.{at_tabulate}
+use Rattle.algebra.proofs.Splicing.{splice}
+use Rattle.algebra.proofs.Tabulate.{at_tabulate, tabulate_same}
 use Rattle.algebra.proofs.Writing.{laid_at}
 use Rattle.field.specs.Field.{q, minus, times, power, inverse}
 use Rattle.field.specs.Polynomial.{dotted}
@@ -33,6 +35,7 @@ use Rattle.weights.specs.Weights.{sixteen}
 use Rattle.weights.proofs.Sixteen.{take_sixteen}
 use Rattle.weights.proofs.Weighing.{mates_most}
 use Rattle.generator_matrix.specs.Step.{run}
+use Rattle.generator_matrix.proofs.Runs.{written_part}
 use Rattle.parity.specs.Parity.{scale, term, check_weight, check_weights}
 use Rattle.parity.specs.Step.{OwnTerms, Terms}
 
@@ -53,19 +56,22 @@ module _ (s : Shape) (x : ℕ) where
       go true = l
       go false = inverse_below s.field (vanishing s x) (vanish_below s x (missing s) s.n)
 
--- a run from place o on
-pub run_terms : (s : Shape) (p x v o n : ℕ) (a z : List ℕ) → x ≡ point s p → v ≡ scale s x → Written (run s.field x v o) o (o + n) a z
-    → Laid (λ l. term s l (point s p)) o n a z
+-- a run from the factor on
+pub run_terms : (s : Shape) (p x v n : ℕ) (xs : List ℕ) → x ≡ point s p → v ≡ scale s x → xs ≡ tabulate (run s.field x v 0) n
+    → xs ≡ tabulate (λ l. term s l (point s p)) n
 unfolding run term
-run_terms s p x v o n a z e d W =
+run_terms s p x v n xs e d W =
+    W ∙ tabulate_same 0 (run s.field x v 0) (λ l. term s l (point s p)) n
+    (λ i h.
+    let z : i - 0 ≡ i = omega arith in
+    ap (λ l. times s.field v (power s.field x l)) z ∙ ap₂ (λ v x. times s.field v (power s.field x i)) (d ∙ ap (scale s) e) e)
+
+-- terms that were written to a part of a buffer
+pub terms_part : (h : ℕ → ℕ) (o k n : ℕ) (xs ys : List ℕ) → k ≡ n → o + n ≤ length xs → ys ≡ tabulate h (length (take k (drop o xs)))
+    → Laid h o n xs (splice o k xs ys)
+terms_part h o k n xs ys c l e =
     record {
-      written =
-          record {
-            size = W.size;
-            put = λ i h l. W.put i h l ∙ ap₂ (λ v x. times s.field v (power s.field x (i - o))) (d ∙ ap (scale s) e) e;
-            before = W.before;
-            behind = W.behind;
-          };
+      written = written_part (λ p. h (p - o)) h o k (o + n) xs ys (omega arith) (omega arith) e (λ i b. let s : i ≡ o + i - o = omega arith in ap h s);
     }
 
 module _ (s : Shape) (p n : ℕ) (few : n ≤ 16) where

@@ -2,7 +2,7 @@
 #![tactic(auto)]
 
 ghost use Rattle.std.specs.Prelude.{◌≡◌, ◌+◌, ◌≤◌, ◌<◌, length};
-ghost use Rattle.algebra.specs.Writing.{Laid};
+ghost use Rattle.algebra.specs.Sequence.{tabulate};
 ghost use Rattle.field.specs.Table.{Powers, Logs};
 ghost use Rattle.code.specs.Shape.{room, point, mates};
 ghost use Rattle.code.specs.Repair.{weights};
@@ -14,16 +14,14 @@ ghost use Rattle.parity.specs.Step.{Terms};
 use code::Shape;
 
 // How many checks a slot with so many mates has.
+#[tactic(auto, unfolding(crate::specs::Parity::checks_with))]
 pub fn checks_with(shape: Shape, number: u32) -> u32
     ensures { result ≡ checks_with shape number }
 {
-    if shape.k >= shape.r {
-        return 0;
-    }
     if number != shape.r {
         return 0;
     }
-    shape.r - shape.k
+    shape.r.saturating_sub(shape.k)
 }
 
 // The factor of every term at x.
@@ -38,22 +36,14 @@ fn scale_at(shape: Shape, x: u8, powers: &[u8; 255], logs: &[u8; 256]) -> u8
     arithmetic::inverse_of(shape.field, h, powers, logs)
 }
 
-// Writes the terms of the first n checks at the point of a place, from o on.
-fn put_terms(
-    shape: Shape,
-    place: u32,
-    n: usize,
-    terms: &mut [u8],
-    o: usize,
-    powers: &[u8; 255],
-    logs: &[u8; 256],
-)
-    requires { Powers 1 powers.now × Logs logs.now × Placed shape × (place < room shape) × (o + n ≤ length terms.old) }
-    ensures { Laid (λ l. term shape l (point shape place)) o n terms.old terms.new }
+// Writes the terms of the first checks at the point of a place.
+fn put_terms(shape: Shape, place: u32, terms: &mut [u8], powers: &[u8; 255], logs: &[u8; 256])
+    requires { Powers 1 powers.now × Logs logs.now × Placed shape × (place < room shape) }
+    ensures { terms.new ≡ tabulate (λ l. term shape l (point shape place)) (length terms.old) }
 {
     let x = layout::point_of(shape, place, powers);
     let scale = scale_at(shape, x, powers, logs);
-    generator_matrix::fill_run(shape.field, x, scale, terms, o, o + n, powers, logs);
+    generator_matrix::fill_run(shape.field, x, scale, terms, powers, logs);
 }
 
 // The terms of the first n checks: those of mate i from 16 i on, the slot's own from 256 on.
@@ -69,13 +59,12 @@ pub fn terms_of(
 {
     let number = layout::mates_number(shape, slot);
     let mut terms = [0u8; 272];
-    let mut i: u32 = 0;
-    while i < number {
+    for i in 0..number {
         let mate = layout::mate_of(shape, slot, i);
-        put_terms(shape, mate, n, &mut terms, i as usize * 16, powers, logs);
-        i += 1;
+        let start = i as usize * 16;
+        put_terms(shape, mate, &mut terms[start..start + n], powers, logs);
     }
-    put_terms(shape, slot, n, &mut terms, 256, powers, logs);
+    put_terms(shape, slot, &mut terms[256..256 + n], powers, logs);
     terms
 }
 
@@ -96,11 +85,9 @@ pub fn check_weights(
     let field = shape.field;
     let own = terms[256 + l];
     let mut row = [0u8; 16];
-    let mut i: usize = 0;
-    while i < number {
+    for i in 0..number {
         let less = arithmetic::sub(field, terms[i * 16 + l], own);
         row[i] = arithmetic::mul(field, factors[i], less, powers, logs);
-        i += 1;
     }
     row
 }
@@ -115,13 +102,11 @@ pub fn pass_checks(shape: Shape, slot: u32, n: usize, symbols: &[u8]) -> bool
     let number = layout::mates_number(shape, slot) as usize;
     let weights = weights::weights_of(shape, slot);
     let terms = terms_of(shape, slot, n, &powers, &logs);
-    let mut l: usize = 0;
-    while l < n {
+    for l in 0..n {
         let row = check_weights(shape, slot, l, &weights, &terms, &powers, &logs);
         if arithmetic::dot(shape.field, &row, symbols, number, &powers, &logs) != 0 {
             return false;
         }
-        l += 1;
     }
     true
 }

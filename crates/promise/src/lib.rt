@@ -29,10 +29,8 @@ fn lose(codeword: &[u8], marks: &[u8], other: &[u8], word: &mut [u8])
     requires { (length marks.now ≡ length codeword.now) × (length other.now ≡ length codeword.now) × (length word.old ≡ length codeword.now) }
     ensures { word.new ≡ after_loss codeword.now marks.now other.now }
 {
-    let mut p: usize = 0;
-    while p < codeword.len() {
-        word[p] = held(p, codeword, marks, other);
-        p += 1;
+    for (p, symbol) in word.iter_mut().enumerate() {
+        *symbol = held(p, codeword, marks, other);
     }
 }
 

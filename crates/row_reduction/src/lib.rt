@@ -41,10 +41,8 @@ fn clear_column(
 {
     let inverse = arithmetic::inverse_of(field, rows[b * 16 + b], powers, logs);
     let turn = arithmetic::sub(field, 0, inverse);
-    let mut a: usize = 0;
-    while a < n {
+    for a in 0..n {
         clear_entry(field, n, rows, a, b, turn, powers, logs);
-        a += 1;
     }
 }
 
@@ -53,10 +51,8 @@ pub fn reduce(field: u32, n: usize, rows: &mut [u8], powers: &[u8; 255], logs: &
     requires { Powers 1 powers.now × Logs logs.now × (n ≤ 16) × (n * 16 ≤ length rows.old) × Elements field rows.old }
     ensures { Reduced field n rows.old rows.new }
 {
-    let mut b: usize = 0;
-    while b < n {
+    for b in 0..n {
         clear_column(field, n, rows, b, powers, logs);
-        b += 1;
     }
 }
 
@@ -66,6 +62,6 @@ pub fn row_of(rows: &[u8], c: usize) -> [u8; 16]
     ensures { result ≡ matrix_row rows.now c }
 {
     let mut row = [0u8; 16];
-    copying::copy(rows, c * 16, 16, &mut row, 0);
+    row.copy_from_slice(&rows[c * 16..c * 16 + 16]);
     row
 }

@@ -32,11 +32,9 @@ fn check_rows(shape: Shape, slot: u32, n: usize, powers: &[u8; 255], logs: &[u8;
     let weights = weights::weights_of(shape, slot);
     let terms = parity::terms_of(shape, slot, n, powers, logs);
     let mut rows = [0u8; 256];
-    let mut c: usize = 0;
-    while c < n {
+    for c in 0..n {
         let row = parity::check_weights(shape, slot, c, &weights, &terms, powers, logs);
-        copying::copy(&row, 0, 16, &mut rows, c * 16);
-        c += 1;
+        rows[c * 16..c * 16 + 16].copy_from_slice(&row);
     }
     rows
 }
@@ -46,10 +44,9 @@ fn reduce_for(field: u32, n: usize, l: usize, rows: &mut [u8], powers: &[u8; 255
     requires { Powers 1 powers.now × Logs logs.now × (n ≤ 16) × (n * 16 ≤ length rows.old) × Elements field rows.old }
     ensures { Reduced field n rows.old rows.new }
 {
-    if l < 512 {
-        return;
+    if l >= 512 {
+        row_reduction::reduce(field, n, rows, powers, logs);
     }
-    row_reduction::reduce(field, n, rows, powers, logs);
 }
 
 // Whether every column is annulled by the first n rows; sums is room for one strip.
@@ -57,13 +54,11 @@ fn annulled(field: u32, n: usize, rows: &[u8], r: usize, strips: &[u8], sums: &m
     requires { (n ≤ 16) × (256 ≤ length rows.now) × (r ≤ 16) × (length sums.old ≤ 4096) × (length strips.now ≡ r * length sums.old) }
     ensures { result ≡ every (zero_row field r (length sums.old) rows.now strips.now) n }
 {
-    let mut c: usize = 0;
-    while c < n {
+    for c in 0..n {
         let row = row_reduction::row_of(rows, c);
         if !sums_zero(field, &row, r, strips, sums) {
             return false;
         }
-        c += 1;
     }
     true
 }

@@ -9,7 +9,7 @@ returns-then-not-gather c =
     let a = c.args in
     let g = c.gather in (
       verdict_none a.shape a.word.now a.marks.now g.new.work a.message.now g.result g.ensures c.if-not-gather.true,
-      c.clear.ensures ∙ ap (λ (l : ℕ). replicate l 0) g.auto.work,
+      c.fill.ensures.after (λ y h. h) ∙ ap (λ (l : ℕ). replicate l 0) g.auto.work,
     )
 
 pub returns-then-one : goal.returns-then-one
@@ -19,7 +19,7 @@ returns-then-one c =
     let t = c.finish-one in (
       verdict_one a.shape a.word.now a.marks.now g.new.work g.result g.ensures c.if-not-gather.false a.message.now
           t.new.solution t.result t.ensures c.if-one.true,
-      c.clear-2.ensures ∙ ap (λ (l : ℕ). replicate l 0) g.auto.work,
+      c.fill-2.ensures.after (λ y h. h) ∙ ap (λ (l : ℕ). replicate l 0) g.auto.work,
     )
 
 pub returns : goal.returns
@@ -29,5 +29,5 @@ returns c =
     let t = c.finish-one in (
       verdict_more a.shape a.word.now a.marks.now g.new.work g.result g.ensures c.if-not-gather.false a.message.now
           t.new.solution t.result t.ensures c.if-one.false,
-      c.clear-2.ensures ∙ ap (λ (l : ℕ). replicate l 0) g.auto.work,
+      c.fill-2.ensures.after (λ y h. h) ∙ ap (λ (l : ℕ). replicate l 0) g.auto.work,
     )

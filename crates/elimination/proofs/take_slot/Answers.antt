@@ -1,16 +1,7 @@
-use Rattle.linear.proofs.Newcomer.{start, part_room, filled_echelon}
-use Rattle.elimination.proofs.Equations.{filled_below, taken, taken_lost}
+use Rattle.linear.proofs.Newcomer.{start, filled_echelon}
+use Rattle.elimination.proofs.Equations.{filled_below, taken}
 use Rattle.code.proofs.Fits.{kept_symbol}
 use Rattle.elimination.proofs.take_slot.Goals as goal
-
-pub returns-then-lost : goal.returns-then-lost
-returns-then-lost c = let a = c.args in taken_lost a.shape a.p a.word.now a.marks.now a.work.now c.requires.3 c.if-lost.true
-
-pub fill_row-requires : goal.fill_row-requires
-unfolding start
-fill_row-requires c =
-    let a = c.args in
-    (c.requires.4, c.requires.5, c.requires.0, c.requires.1, part_room a.shape.field a.shape.k a.work.now c.requires.3)
 
 pub insert-requires : goal.insert-requires
 unfolding start

@@ -1,4 +1,7 @@
-use mathlib.Core.Path.{ap, ◌∙◌}
+use mathlib.Core.Path.{sym, ap, ◌∙◌}
+use mathlib.Core.List.{◌++◌}
+use lib.ListN.{drop}
+use lib.Seq.{length-take-le}
 use Prim.Native.Nat.{◌+◌, ◌-◌, ◌<◌}
 use native.Mathlib.Omega.{arith}
 use Rattle.field.specs.Field.{γ, minus}
@@ -9,6 +12,9 @@ use Rattle.code.specs.Basis.{vanishing}
 use Rattle.code.proofs.Places.{slot_room}
 use Rattle.code.proofs.Points.{point_below}
 use Rattle.code.proofs.Vanishing.{vanish_below}
+use Rattle.algebra.proofs.Splicing.{splice}
+use Rattle.generator_matrix.specs.Step.{run, blocks}
+use Rattle.generator_matrix.proofs.Runs.{written_part, written_front, run_from}
 use Rattle.generator_matrix.proofs.Generators.{lead_worked, row_whole, row_short}
 use Rattle.generator_matrix.proofs.fill_row.Goals as goal
 use Rattle.generator_matrix.proofs.fill_row.Goals.{Start}
@@ -31,19 +37,19 @@ fill_blocks-requires c =
       rw c.point_of-x.ensures (point_below c.args.shape c.args.slot),
       rw c.group_power-power.ensures (power_below f γ _ (gamma_below f)),
       c.requires.2.family.placed.r_least,
-      c.requires.4,
     )
 
 pub returns-then-missing-eq0 : goal.returns-then-missing-eq0
 returns-then-missing-eq0 c =
     let a = c.args in
+    let h = a.shape in
     let x = c.point_of-x in
     let j = c.group_of in
     let y = c.group_power-power in
     let t = c.missing_of-missing in
-    let d = c.fill_blocks in
-    row_whole a.shape c.requires.2 a.slot x.result j.result y.result t.result c.requires.3 x.ensures j.ensures.0 y.ensures t.ensures a.row.now d.new.row
-    c.if-missing-eq0.true d.ensures
+    let xs = c.fill_blocks.new.row in
+    row_whole h c.requires.2 a.slot x.result j.result y.result t.result c.requires.3 x.ensures j.ensures.0 y.ensures t.ensures a.row.now (xs ++ drop h.k a.row.now)
+    c.if-missing-eq0.true (written_front (blocks h.field x.result y.result 0 h.r) h.k a.row.now xs c.requires.4 c.fill_blocks.ensures)
 
 pub overflow_sub-lead : goal.overflow_sub-lead
 overflow_sub-lead c =
@@ -59,8 +65,13 @@ fill_blocks-requires-2 c =
       rw c.point_of-x.ensures (point_below c.args.shape c.args.slot),
       rw c.sub-good.ensures ((laws f).minus_below _ _),
       c.requires.2.family.placed.r_least,
-      omega (arith, lead_worked c.args.shape c.requires.2 t.result t.ensures c.if-missing-eq0.false, c.requires.4),
     )
+
+pub slice_bounds-fill_blocks-end-3 : goal.slice_bounds-fill_blocks-end-3
+slice_bounds-fill_blocks-end-3 c =
+    let a = c.args in
+    let t = c.missing_of-missing in
+    sym (length-take-le (a.shape.k + t.result - a.shape.r) a.row.now (omega (arith, lead_worked a.shape c.requires.2 t.result t.ensures c.if-missing-eq0.false, c.requires.4)))
 
 pub fill_run-requires : goal.fill_run-requires
 unfolding vanishing
@@ -71,13 +82,12 @@ fill_run-requires c =
       c.requires.1,
       rw c.point_of-x.ensures (point_below h c.args.slot),
       rw c.vanishing_at-vanishing.ensures (vanish_below h _ (missing h) h.n),
-      omega (arith, lead_worked h c.requires.2 t.result t.ensures c.if-missing-eq0.false),
-      omega (arith, c.requires.4, c.fill_blocks-2.ensures.size),
     )
 
 pub returns : goal.returns
 returns c =
     let a = c.args in
+    let h = a.shape in
     let x = c.point_of-x in
     let j = c.group_of in
     let y = c.group_power-power in
@@ -85,9 +95,14 @@ returns c =
     let some = c.if-missing-eq0.false in
     let g = c.sub-good in
     let v = c.vanishing_at-vanishing in
-    let d = c.fill_blocks-2 in
-    let e = c.fill_run in
-    row_short a.shape c.requires.2 a.slot x.result j.result y.result t.result c.requires.3 x.ensures j.ensures.0 y.ensures t.ensures a.row.now e.new.row
-    some g.result v.result (a.shape.k + t.result - a.shape.r) d.new.row
-    (g.ensures ∙ ap (minus a.shape.field y.result) c.constant_of.ensures) v.ensures
-    (lead_worked a.shape c.requires.2 t.result t.ensures some).1 d.ensures e.ensures
+    let xs = c.fill_blocks-2.new.row in
+    let ys = c.fill_run.new.row in
+    let lead = h.k + t.result - h.r in
+    let b = xs ++ drop lead a.row.now in
+    let d = lead_worked h c.requires.2 t.result t.ensures some in
+    let W = written_front (blocks h.field x.result g.result 1 h.r) lead a.row.now xs (omega (arith, d, c.requires.4)) c.fill_blocks-2.ensures in
+    row_short h c.requires.2 a.slot x.result j.result y.result t.result c.requires.3 x.ensures j.ensures.0 y.ensures t.ensures a.row.now
+    (splice lead (h.k - lead) b ys) some g.result v.result lead b
+    (g.ensures ∙ ap (minus h.field y.result) c.constant_of.ensures) v.ensures d.1 W
+    (written_part (run h.field x.result v.result lead) (run h.field x.result v.result 0) lead (h.k - lead) h.k b ys (omega (arith, d, W.size, c.requires.4)) (omega (arith, d))
+    c.fill_run.ensures (λ i l. run_from h.field x.result v.result lead i))

@@ -1,30 +1,27 @@
-use Prim.Native.Nat.{◌-◌}
+use mathlib.Core.Path.{refl}
 use native.Mathlib.Omega.{arith}
-use Rattle.algebra.proofs.Writing.{writing_none, writing_more, writing_done}
+use lib.ListN.{length}
+use Rattle.algebra.proofs.Filling.{filled_none, filled_more, filled_all}
+use Rattle.generator_matrix.specs.Step.{run}
 use Rattle.generator_matrix.proofs.Runs.{run_none, run_more}
 use Rattle.generator_matrix.proofs.fill_run.Goals as goal
 
-pub loop-m-init : goal.loop-m-init
-loop-m-init c =
+pub loop-entry-init : goal.loop-entry-init
+loop-entry-init c =
     let a = c.args in
-    (run_none a.field a.x a.head a.from c.requires.2 c.requires.3, writing_none c.requires.4)
+    (run_none a.field a.x a.head 0 c.requires.2 c.requires.3, filled_none (run a.field a.x a.head 0) a.row.now)
 
-pub bounds-row-m : goal.bounds-row-m
-bounds-row-m c = omega (arith, c.loop-m.invariant.1.done.size)
-
-pub mul-value-requires : goal.mul-value-requires
-mul-value-requires c = (c.requires.0, c.requires.1)
-
-pub loop-m-preserved : goal.loop-m-preserved
-loop-m-preserved c =
+pub loop-entry-preserved : goal.loop-entry-preserved
+loop-entry-preserved c =
     let a = c.args in
-    let l = c.loop-m in (
-      run_more a.field a.x a.head a.from c.requires.2 c.requires.3 l.m l.value c.mul-value.result l.invariant.1.least l.invariant.0 c.mul-value.ensures,
-      writing_more c.loop-m-test.true c.requires.5 l.invariant.0 l.invariant.1,
+    let l = c.loop-entry in
+    let i = l.invariant in (
+      run_more a.field a.x a.head 0 c.requires.2 c.requires.3 l.entry-index l.value c.mul-value.result (omega arith) i.0 c.mul-value.ensures,
+      filled_more (run a.field a.x a.head 0) l.entry-index l.value a.row.now l.row (omega arith) i.0 i.1,
     )
 
-pub shape_of-row : goal.shape_of-row
-shape_of-row c = c.loop-m.invariant.1.done.size
-
 pub returns : goal.returns
-returns c = writing_done c.loop-m-test.false c.loop-m.invariant.1
+returns c =
+    let a = c.args in
+    let l = c.loop-entry in
+    filled_all (run a.field a.x a.head 0) l.entry-index (length a.row.now) a.row.now l.row (omega arith) refl l.invariant.1

@@ -1,12 +1,8 @@
 use mathlib.Core.Path.{◌≡◌}
-use Prim.Native.Nat.{◌-◌}
-use Rattle.algebra.proofs.Writing.{Writing}
+use Rattle.algebra.proofs.Filling.{Filled}
 use Rattle.generator_matrix.specs.Step.{run}
 use Rattle.generator_matrix.proofs.fill_run.Given as goal
 
-abbrev pub invariant-loop-m : goal.invariant-loop-m
-invariant-loop-m l =
-    (l.value ≡ run l.field l.x l.head l.from l.m) × Writing (run l.field l.x l.head l.from) l.from l.to l.m l.initial.row l.row
-
-abbrev pub decreases-loop-m : goal.decreases-loop-m
-decreases-loop-m l = l.to - l.m
+abbrev pub invariant-loop-entry : goal.invariant-loop-entry
+invariant-loop-entry l =
+    (l.value ≡ run l.field l.x l.head 0 l.entry-index) × Filled (run l.field l.x l.head 0) l.entry-index l.initial.row l.row

@@ -9,27 +9,25 @@ use Rattle.generator_matrix.proofs.vanishing_at.Goals as goal
 
 pub loop-i-init : goal.loop-i-init
 loop-i-init c =
-    (omega (arith, c.missing_of-i.ensures), vanish_none c.args.shape c.args.x c.missing_of-i.result c.missing_of-i.ensures)
+    vanish_none c.args.shape c.args.x c.missing_of-i.result c.missing_of-i.ensures
 
 pub overflow_add-shape : goal.overflow_add-shape
 overflow_add-shape c =
-    omega (arith, room_byte c.args.shape c.requires.2, missing_inside c.args.shape c.requires.2 (c.loop-i.i - 1) (omega (arith, c.loop-i.invariant.0)))
+    omega (arith, room_byte c.args.shape c.requires.2, missing_inside c.args.shape c.requires.2 (c.loop-i.i - 1) (omega (arith, c.missing_of-i.ensures)))
 
 pub point_of-requires : goal.point_of-requires
 point_of-requires c =
-    (c.requires.0, c.requires.2, missing_inside c.args.shape c.requires.2 (c.loop-i.i - 1) (omega (arith, c.loop-i.invariant.0)))
+    (c.requires.0, c.requires.2, missing_inside c.args.shape c.requires.2 (c.loop-i.i - 1) (omega (arith, c.missing_of-i.ensures)))
 
 pub loop-i-preserved : goal.loop-i-preserved
 loop-i-preserved c =
     let l = c.loop-i in
-    let f = c.args.shape.field in (
-      omega arith,
-      vanish_more c.args.shape c.args.x l.i (l.i - 1) l.product c.mul-product.result (omega arith) l.invariant.0 l.invariant.1
-          (c.mul-product.ensures ∙ ap (λ y. times f y l.product) (c.sub-factor.ensures ∙ ap (minus f c.args.x) c.point_of.ensures)),
-    )
+    let f = c.args.shape.field in
+    vanish_more c.args.shape c.args.x l.i (l.i - 1) l.product c.mul-product.result (omega arith) (omega (arith, c.missing_of-i.ensures)) l.invariant
+    (c.mul-product.ensures ∙ ap (λ y. times f y l.product) (c.sub-factor.ensures ∙ ap (minus f c.args.x) c.point_of.ensures))
 
 pub returns : goal.returns
 returns c =
     let a = c.args in
     let l = c.loop-i in
-    vanish_done a.shape a.x l.i l.product (omega arith) l.invariant.1
+    vanish_done a.shape a.x l.i l.product (omega arith) l.invariant

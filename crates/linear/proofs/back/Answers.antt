@@ -1,34 +1,21 @@
-use mathlib.Core.Path.{◌≡◌, sym, ◌∙◌}
-use Prim.Native.Nat.{◌+◌, ◌-◌}
+use mathlib.Core.Path.{◌≡◌, ◌∙◌}
+use Prim.Native.Nat.{◌-◌}
 use native.Mathlib.Omega.{arith}
 use lib.ListN.{length, length-set}
-use Rattle.algebra.proofs.Strides.{row_step}
 use Rattle.linear.proofs.Substitution.{backing_none, backing_more, backed}
 use Rattle.linear.proofs.back.Goals as goal
 
 pub loop-j-init : goal.loop-j-init
 loop-j-init c =
-    let t = c.clear in
+    let t = c.fill in
     let e : length c.args.solution.now ≡ c.args.k = c.requires.1 in
-    backing_none c.args.field c.args.k c.args.work.now t.new.s (t.auto.s ∙ e) (rw e at t.ensures)
-
-pub value-v-requires : goal.value-v-requires
-value-v-requires c =
-    let l = c.loop-j in
-    let h = row_step (l.j - 1) c.args.k (c.args.k + 1) (omega arith) in
-    (omega (arith, h, c.requires.0.room), l.invariant.vector.size, c.requires.2, c.requires.3)
-
-pub bounds-solution-j : goal.bounds-solution-j
-bounds-solution-j c = omega (arith, c.loop-j.invariant.vector.size)
+    backing_none c.args.field c.args.k c.args.work.now t.new.self (t.auto.self ∙ e) (rw e at (t.ensures.after (λ y h. h)))
 
 pub loop-j-preserved : goal.loop-j-preserved
 loop-j-preserved c =
     let l = c.loop-j in
     backing_more c.args.field c.args.k c.args.work.now l.solution l.j c.value-v.result c.requires.0 (omega arith) l.invariant
     c.value-v.ensures (length-set l.solution (l.j - 1) c.value-v.result)
-
-pub shape_of-solution : goal.shape_of-solution
-shape_of-solution c = c.loop-j.invariant.vector.size ∙ sym c.requires.1
 
 pub returns : goal.returns
 returns c =

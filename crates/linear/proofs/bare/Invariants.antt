@@ -1,10 +1,7 @@
 use mathlib.Core.Logic.{◌≢◌}
-use Prim.Native.Nat.{ℕ, ◌-◌, ◌≤◌, ◌<◌}
+use Prim.Native.Nat.{ℕ, ◌<◌}
 use Rattle.linear.specs.System.{entry}
 use Rattle.linear.proofs.bare.Given as goal
 
 abbrev pub invariant-loop-j : goal.invariant-loop-j
-invariant-loop-j l = (l.j ≤ l.k) × ((i : ℕ) → i < l.j → entry l.k l.work i i ≢ 0)
-
-abbrev pub decreases-loop-j : goal.decreases-loop-j
-decreases-loop-j l = l.k - l.j
+invariant-loop-j l = (i : ℕ) → i < l.j → entry l.k l.work i i ≢ 0

@@ -1,15 +1,13 @@
-use native.Mathlib.Omega.{arith}
 use Rattle.linear.proofs.Substitution.{finished_one, finished_more}
 use Rattle.linear.proofs.finish.Goals as goal
 
-pub returns-then-j-k : goal.returns-then-j-k
-returns-then-j-k c =
-    let t = c.bare-j in
-    finished_more c.args.field c.args.k t.result c.args.work.now c.args.solution.now c.requires.0 c.if-j-k.true (t.ensures.bare c.if-j-k.true)
+pub returns-in-Some : goal.returns-in-Some
+returns-in-Some c =
+    let a = c.args in
+    let t = c.in-Some in
+    finished_more a.field a.k t.field-0 a.work.now a.solution.now c.requires.0 t.ensures.0 (t.ensures.1.bare t.ensures.0)
 
-pub returns : goal.returns
-returns c =
-    let t = c.bare-j in
-    let d = c.back in
-    finished_one c.args.field c.args.k c.args.work.now c.args.solution.now d.new.solution c.requires.0
-    (λ i h. t.ensures.heads i (omega arith)) d.ensures
+pub returns-in-None : goal.returns-in-None
+returns-in-None c =
+    let a = c.args in
+    finished_one a.field a.k a.work.now a.solution.now c.back.new.solution c.requires.0 c.in-None.ensures.heads c.back.ensures

@@ -1,4 +1,4 @@
-use mathlib.Core.Path.{ap, ◌∙◌}
+use mathlib.Core.Path.{ap}
 use Prim.Native.Nat.{◌+◌, ◌*◌}
 use lib.ListN.{set, length-set}
 use Rattle.linear.proofs.Elimination.{entered, inserted}
@@ -14,11 +14,6 @@ place-requires c =
       c.requires.3,
       c.requires.4,
     )
-
-pub shape_of-work : goal.shape_of-work
-shape_of-work c =
-    let a = c.args in
-    c.place.auto.work ∙ length-set a.work.now (a.k * (a.k + 1) + a.k) c.sub-c.result
 
 pub returns : goal.returns
 returns c =

@@ -1,6 +1,4 @@
 use mathlib.Core.Path.{◌≡◌, sym, ap, subst, ◌∙◌}
-use mathlib.Core.Bool.{true}
-use Prim.Native.Nat.{◌-◌}
 use native.Mathlib.Omega.{arith}
 use borrow.Author.Tests.{eq-eqb, ne_eqb}
 use lib.ListN.{length, take}
@@ -29,7 +27,7 @@ terms_of-terms-requires c =
     (c.power_table-powers.ensures, c.log_table-logs.ensures, c.requires.0, c.requires.1, omega (arith, c.requires.2, checks_most a.shape a.slot, r_most a.shape c.requires.0.placed))
 
 pub loop-l-init : goal.loop-l-init
-loop-l-init c = let a = c.args in (omega arith, every_none (passes_check a.shape a.slot a.symbols.now))
+loop-l-init c = let a = c.args in every_none (passes_check a.shape a.slot a.symbols.now)
 
 pub check_weights-row-requires : goal.check_weights-row-requires
 check_weights-row-requires c =
@@ -75,23 +73,15 @@ returns-then-dot-ne0 c =
     (ne_eqb (dotted a.shape.field (check_weights a.shape a.slot c.loop-l.l) (take (length (mates a.shape a.slot)) a.symbols.now)) 0
     (λ e. c.if-dot-ne0.true (sum_is (goal.at.returns-then-dot-ne0 c).After-dot ∙ e))))
 
-pub overflow_add-l : goal.overflow_add-l
-overflow_add-l c = omega (arith, c.requires.2, c.loop-l-test.true, checks_most c.args.shape c.args.slot, r_most c.args.shape c.requires.0.placed)
-
-pub loop-l-smaller : goal.loop-l-smaller
-loop-l-smaller c = omega (arith, c.loop-l-test.true)
-
 pub loop-l-preserved : goal.loop-l-preserved
 loop-l-preserved c =
-    let a = c.args in (
-      omega (arith, c.loop-l-test.true),
-      every_more (passes_check a.shape a.slot a.symbols.now) c.loop-l.l c.loop-l.invariant.1
-          (eq-eqb (dotted a.shape.field (check_weights a.shape a.slot c.loop-l.l) (take (length (mates a.shape a.slot)) a.symbols.now)) 0
-          (sym (sum_is (goal.at.loop-l-preserved c).After-dot) ∙ c.if-dot-ne0.false)),
-    )
+    let a = c.args in
+    every_more (passes_check a.shape a.slot a.symbols.now) c.loop-l.l c.loop-l.invariant
+    (eq-eqb (dotted a.shape.field (check_weights a.shape a.slot c.loop-l.l) (take (length (mates a.shape a.slot)) a.symbols.now)) 0
+    (sym (sum_is (goal.at.loop-l-preserved c).After-dot) ∙ c.if-dot-ne0.false))
 
 pub returns : goal.returns
 unfolding passes
 returns c =
     let a = c.args in
-    every_done (passes_check a.shape a.slot a.symbols.now) (checks a.shape a.slot) c.loop-l.l (omega (arith, c.requires.2, c.loop-l.invariant.0)) (omega (arith, c.requires.2, c.loop-l-test.false)) c.loop-l.invariant.1
+    every_done (passes_check a.shape a.slot a.symbols.now) (checks a.shape a.slot) c.loop-l.l (omega (arith, c.requires.2)) (omega (arith, c.requires.2, c.loop-l-test.false)) c.loop-l.invariant

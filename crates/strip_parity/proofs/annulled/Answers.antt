@@ -1,6 +1,5 @@
-use mathlib.Core.Path.{◌≡◌, refl, sym, ap, ap₂, ◌∙◌}
-use mathlib.Core.Bool.{true}
-use Prim.Native.Nat.{◌*◌, ◌-◌}
+use mathlib.Core.Path.{◌≡◌, sym, ap, ap₂, ◌∙◌}
+use Prim.Native.Nat.{◌*◌}
 use native.Mathlib.Omega.{arith}
 use lib.ListN.{length}
 use Rattle.algebra.specs.Sequence.{all_below}
@@ -12,7 +11,7 @@ use Rattle.strip_parity.proofs.annulled.Goals as goal
 use Rattle.strip_parity.proofs.annulled.Goals.{After-sums_zero}
 
 pub loop-c-init : goal.loop-c-init
-loop-c-init c = let a = c.args in (omega arith, every_none (zero_row a.field a.r (length a.sums.now) a.rows.now a.strips.now), refl)
+loop-c-init c = let a = c.args in every_none (zero_row a.field a.r (length a.sums.now) a.rows.now a.strips.now)
 
 pub row_of-row-requires : goal.row_of-row-requires
 row_of-row-requires c = (omega (arith, c.requires.0, c.loop-c-test.true), c.requires.1)
@@ -22,12 +21,9 @@ sums_zero-requires c =
     let a = c.args in (
       c.requires.2,
       omega (arith, c.requires.2, ap length c.row_of-row.ensures ∙ length_row a.rows.now c.loop-c.c),
-      omega (arith, c.loop-c.invariant.2, c.requires.3),
-      c.requires.4 ∙ ap (λ k. a.r * k) (sym c.loop-c.invariant.2),
+      omega (arith, c.loop-c.auto.sums, c.requires.3),
+      c.requires.4 ∙ ap (λ k. a.r * k) (sym c.loop-c.auto.sums),
     )
-
-pub shape_of-sums-then-not-sums_zero : goal.shape_of-sums-then-not-sums_zero
-shape_of-sums-then-not-sums_zero c = c.sums_zero.ensures.1 ∙ c.loop-c.invariant.2
 
 -- what was found of row c
 found : (c : After-sums_zero) → let a = c.args in
@@ -36,7 +32,7 @@ unfolding zero_row
 found c =
     let a = c.args in
     c.sums_zero.ensures.0
-    ∙ ap₂ (λ row k. all_below 1 (weighed a.field row a.r k a.strips.now)) c.row_of-row.ensures c.loop-c.invariant.2
+    ∙ ap₂ (λ row k. all_below 1 (weighed a.field row a.r k a.strips.now)) c.row_of-row.ensures c.loop-c.auto.sums
 
 pub returns-then-not-sums_zero : goal.returns-then-not-sums_zero
 returns-then-not-sums_zero c =
@@ -44,25 +40,13 @@ returns-then-not-sums_zero c =
     sym (every_not (zero_row a.field a.r (length a.sums.now) a.rows.now a.strips.now) a.n c.loop-c.c c.loop-c-test.true
     (sym (found (goal.at.returns-then-not-sums_zero c).After-sums_zero) ∙ c.if-not-sums_zero.true))
 
-pub overflow_add-c : goal.overflow_add-c
-overflow_add-c c = omega (arith, c.requires.0, c.loop-c-test.true)
-
-pub loop-c-smaller : goal.loop-c-smaller
-loop-c-smaller c = omega (arith, c.loop-c-test.true)
-
 pub loop-c-preserved : goal.loop-c-preserved
 loop-c-preserved c =
-    let a = c.args in (
-      omega (arith, c.loop-c-test.true),
-      every_more (zero_row a.field a.r (length a.sums.now) a.rows.now a.strips.now) c.loop-c.c c.loop-c.invariant.1
-          (sym (found (goal.at.loop-c-preserved c).After-sums_zero) ∙ c.if-not-sums_zero.false),
-      c.sums_zero.ensures.1 ∙ c.loop-c.invariant.2,
-    )
-
-pub shape_of-sums : goal.shape_of-sums
-shape_of-sums c = c.loop-c.invariant.2
+    let a = c.args in
+    every_more (zero_row a.field a.r (length a.sums.now) a.rows.now a.strips.now) c.loop-c.c c.loop-c.invariant
+    (sym (found (goal.at.loop-c-preserved c).After-sums_zero) ∙ c.if-not-sums_zero.false)
 
 pub returns : goal.returns
 returns c =
     let a = c.args in
-    every_done (zero_row a.field a.r (length a.sums.now) a.rows.now a.strips.now) a.n c.loop-c.c c.loop-c.invariant.0 (omega (arith, c.loop-c-test.false)) c.loop-c.invariant.1
+    every_done (zero_row a.field a.r (length a.sums.now) a.rows.now a.strips.now) a.n c.loop-c.c (omega arith) (omega (arith, c.loop-c-test.false)) c.loop-c.invariant

@@ -1,6 +1,5 @@
 use mathlib.Core.Path.{◌≡◌}
 use mathlib.Core.Bool.{true}
-use Prim.Native.Nat.{◌-◌, ◌≤◌}
 use lib.ListN.{length}
 use Rattle.algebra.specs.Sequence.{every}
 use Rattle.strip_parity.specs.Step.{zero_row}
@@ -8,7 +7,4 @@ use Rattle.strip_parity.proofs.annulled.Given as goal
 
 abbrev pub invariant-loop-c : goal.invariant-loop-c
 invariant-loop-c l =
-    (l.c ≤ l.n) × (every (zero_row l.field l.r (length l.initial.sums) l.rows l.strips) l.c ≡ true) × (length l.sums ≡ length l.initial.sums)
-
-abbrev pub decreases-loop-c : goal.decreases-loop-c
-decreases-loop-c l = l.n - l.c
+    every (zero_row l.field l.r (length l.initial.sums) l.rows l.strips) l.c ≡ true
