@@ -120,10 +120,8 @@ pub fn put_symbols(text: &mut [u8], at: usize, symbols: &[u8]) -> usize
     ensures { Puts (all_spaced symbols.now) text.old at text.new result × (result ≤ at + 4 * length symbols.now) }
 {
     let mut next = at;
-    let mut i: usize = 0;
-    while i < symbols.len() {
-        next = put_spaced(text, next, symbols[i] as u32);
-        i += 1;
+    for symbol in symbols {
+        next = put_spaced(text, next, u32::from(*symbol));
     }
     next
 }

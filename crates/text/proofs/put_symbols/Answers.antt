@@ -1,36 +1,19 @@
-use mathlib.Core.Path.{refl, ◌∙◌}
-use Prim.Native.Nat.{◌-◌}
+use mathlib.Core.Path.{refl, ap, ◌∙◌}
 use native.Mathlib.Omega.{arith}
-use Rattle.text.proofs.Puts.{puts_no_symbols, puts_symbol, puts_symbols}
+use Rattle.text.specs.Text.{spaced}
+use Rattle.text.proofs.Puts.{puts_as, puts_no_symbols, puts_symbol}
 use Rattle.text.proofs.put_symbols.Goals as goal
 
-pub loop-i-init : goal.loop-i-init
-loop-i-init c =
+pub loop-symbol-init : goal.loop-symbol-init
+loop-symbol-init c = let a = c.args in (refl, omega arith, puts_no_symbols a.symbols.now a.text.now a.at)
+
+pub loop-symbol-preserved : goal.loop-symbol-preserved
+loop-symbol-preserved c =
+    let l = c.loop-symbol in
     let a = c.args in
-    (omega arith, refl, omega arith, puts_no_symbols a.symbols.now a.text.now a.at)
-
-pub overflow_cast-symbols : goal.overflow_cast-symbols
-overflow_cast-symbols c = omega (arith, c.shared_slice_known-in-loop-i-1.given c.loop-i.i)
-
-pub put_spaced-next-requires : goal.put_spaced-next-requires
-put_spaced-next-requires c = omega (arith, c.shared_slice_known-in-loop-i-1.given c.loop-i.i)
-
-pub loop-i-preserved : goal.loop-i-preserved
-loop-i-preserved c =
-    let l = c.loop-i in
-    let a = c.args in
-    let p = c.put_spaced-next.ensures in (
-      omega arith,
-      c.put_spaced-next.auto.text ∙ l.invariant.1,
+    let p = c.put_spaced-next.ensures in
+    let q = c.from.ensures in (
+      c.put_spaced-next.auto.text ∙ l.invariant.0,
       omega (arith, p.1),
-      puts_symbol a.symbols.now l.i (omega arith) l.invariant.3 p.0 (omega arith),
+      puts_symbol a.symbols.now l.symbol-index (omega arith) l.invariant.2 (puts_as (ap spaced q) p.0) (omega arith),
     )
-
-pub shape_of-text : goal.shape_of-text
-shape_of-text c = c.loop-i.invariant.1
-
-pub returns : goal.returns
-returns c =
-    let l = c.loop-i in
-    let a = c.args in
-    (puts_symbols a.symbols.now l.i (omega arith) l.invariant.3, omega arith)
