@@ -3,7 +3,7 @@
 
 ghost use Rattle.std.specs.Prelude.{◌≡◌, false, ◌+◌, ◌*◌, ◌≤◌, ◌<◌, length};
 ghost use Rattle.code.specs.Decoding.{lost};
-ghost use Rattle.words.specs.Word.{word, word_at, kind, code_word, end_word, slot_word, word_code, slot_fits, word_symbol, word_mark};
+ghost use Rattle.words.specs.Word.{word_at, kind, code_word, end_word, slot_word, word_code, slot_fits, word_symbol, word_mark};
 ghost use Rattle.words.specs.Step.{Narrow, put_word};
 ghost use Rattle.words.specs.Kind.{number, NumberSays, KindSays};
 
@@ -38,20 +38,13 @@ impl TryFrom<u32> for Kind {
     }
 }
 
-// The word of four bytes, the high byte first.
-fn word_of(a: u8, b: u8, c: u8, d: u8) -> u32
-    ensures { result ≡ word a b c d }
-{
-    ((a as u32 * 256 + b as u32) * 256 + c as u32) * 256 + d as u32
-}
-
-// Word i of a sheet.
+// Word i of a sheet, its high byte first.
 pub fn word_at(sheet: &[u8], i: usize) -> u32
     requires { 4 * i + 4 ≤ length sheet.now }
     ensures { result ≡ word_at sheet.now i }
 {
     let at = 4 * i;
-    word_of(sheet[at], sheet[at + 1], sheet[at + 2], sheet[at + 3])
+    u32::from_be_bytes([sheet[at], sheet[at + 1], sheet[at + 2], sheet[at + 3]])
 }
 
 // Writes a word's four bytes, the high byte first.
@@ -60,10 +53,7 @@ pub fn put_word(sheet: &mut [u8], i: usize, w: u32)
     ensures { sheet.new ≡ put_word sheet.old i w }
 {
     let at = 4 * i;
-    sheet[at] = (w / 0x100_0000) as u8;
-    sheet[at + 1] = (w / 0x1_0000 % 256) as u8;
-    sheet[at + 2] = (w / 256 % 256) as u8;
-    sheet[at + 3] = (w % 256) as u8;
+    sheet[at..at + 4].copy_from_slice(&w.to_be_bytes());
 }
 
 // The kind of a word, by its top four bits.
