@@ -48,18 +48,15 @@ fn put_slots(
     requires { Marked shape marks.old (length work.old) × (7395 ≤ length text.old) × (1020 ≤ length safe.old) }
     ensures { SlotsPut shape marks.old text.old text.new safe.old safe.new result }
 {
-    let n = shape.n;
-    let mut lines: usize = 0;
-    let mut last: usize = 0;
-    let mut slot: u32 = 0;
-    while slot < n {
+    let mut lines = 0;
+    let mut last = 0;
+    for slot in 0..shape.n {
         let kept = marks[slot as usize] != 1;
         if kept {
             let seen = previewing::preview_in(shape, slot, marks, work);
             lines = put_slot(text, lines, slot, seen.grade, seen.first);
             last = put_safe(safe, last, slot, seen.grade);
         }
-        slot += 1;
     }
     Ends { lines, safe: last }
 }
