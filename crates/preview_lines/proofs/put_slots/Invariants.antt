@@ -9,6 +9,4 @@ invariant-loop-slot l =
     (l.shape.n ≤ 255)
     × (l.marks ≡ l.initial.marks)
     × (length l.work ≡ length l.initial.work)
-    × (length l.text ≡ length l.initial.text)
-    × (length l.safe ≡ length l.initial.safe)
-    × PutTo l.shape l.initial.marks l.slot l.initial.text l.text l.initial.safe l.safe l.lines l.last
+    × PutTo l.shape l.initial.marks l.slot l.initial.page l.page l.initial.safe l.safe
