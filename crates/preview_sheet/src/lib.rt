@@ -9,6 +9,7 @@ use code::Answer;
 use text::Page;
 
 // Puts the preview of a sheet on an empty page.
+// One function for this and the report's would take the stripe's step as a closure over its buffers, which is no plainer.
 fn put_preview(
     input: &[u8],
     word: &mut [u8],

@@ -39,6 +39,7 @@ fn put_stripe(
 }
 
 // Puts the report of a sheet on an empty page.
+// One function for this and the preview's would take the stripe's step as a closure over its buffers, which is no plainer.
 fn put_report(
     input: &[u8],
     word: &mut [u8],
