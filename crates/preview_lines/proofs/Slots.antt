@@ -1,7 +1,7 @@
 -- The lines of the kept slots and the safe slots, one slot more each time. Assumes nothing.
---   PutTo s ms p t z o y l e   == the lines of the first p slots stand in front of the text, those that are safe in front of a text of their own
+--   PutTo s ms p l q o e       == the lines of the first p slots were put to a page, those that are safe to a page of their own
 --   put_as, put_none, put_lost, put_kept, put_all    the same; no slot; a lost one more; a kept one more; all of them
---   slots_most, slots_lines    how far the lines and the safe slots reach; they are the lines of the preview
+--   slots_most, safe_size, slots_lines    how far the lines and the safe slots reach; they are the lines of the preview
 --   small_preview              the numbers of a preview have at most three digits
 use mathlib.Core.Path.{◌≡◌, refl, sym, ap, ◌∙◌, subst}
 use mathlib.Core.Logic.{◌≢◌}
@@ -22,14 +22,16 @@ use Rattle.code.proofs.Graded.{four_is, grade_most, first_most}
 use Rattle.previewing.specs.Preview.{marked, preview_of}
 use Rattle.previewing.specs.declared.Previewed.{Previewed}
 use Rattle.text.specs.Text.{ascii, spaced, Puts}
-use Rattle.text.proofs.Puts.{puts_then, puts_as, puts_none, front_end, front_bytes}
+use Rattle.text.specs.Page.{Wrote}
+use Rattle.text.specs.declared.Page.{Page}
+use Rattle.text.proofs.Puts.{wrote_then, wrote_as, wrote_none, wrote_front, front_end, front_bytes}
 use Rattle.preview_lines.specs.Lines.{joined, slot_line, kept_line, safe, safe_slot, preview_lines}
 use Rattle.preview_lines.specs.Step.{SlotsPut}
-use Rattle.preview_lines.specs.declared.Ends.{Ends}
 
-one_more : {bs t u v : List ℕ} {m x : ℕ} (f : ℕ → List ℕ) (p : ℕ) → bs ≡ f p → Puts (joined f p) t 0 u m → Puts bs u m v x → Puts (joined f (p + 1)) t 0 v x
+one_more : {bs : List ℕ} {a b c : Page} (f : ℕ → List ℕ) (p : ℕ) → bs ≡ f p → Wrote (joined f p) a b → Wrote bs b c → a.end ≤ length a.text.now
+    → Wrote (joined f (p + 1)) a c
 unfolding joined
-one_more f p e P Q = puts_as (ap (λ l. joined f p ++ l) e ∙ sym (ap (joined f) (add-one p))) (puts_then P Q (omega arith))
+one_more f p e P Q h = wrote_as (ap (λ l. joined f p ++ l) e ∙ sym (ap (joined f) (add-one p))) (wrote_then P Q h)
 
 module _ (s : Shape) (ms : List ℕ) (p : ℕ) where
   line_lost : at ms p ≡ 1 → [] ≡ kept_line s ms p
@@ -58,56 +60,61 @@ module _ (s : Shape) (ms : List ℕ) (p : ℕ) where
         turned true = refl
         turned false = refl
 
--- t and o are the texts before, z and y after, and l and e the places behind
-pub record PutTo (s : Shape) (ms : List ℕ) (p : ℕ) (t z o y : List ℕ) (l e : ℕ) : Type 0 where
-  pub lines : Puts (joined (kept_line s ms) p) t 0 z l
-  pub lines_most : l ≤ 29 * p
-  pub safe : Puts (joined (safe_slot s ms) p) o 0 y e
-  pub safe_most : e ≤ 4 * p
+-- l and o are the pages before, q and e after
+pub record PutTo (s : Shape) (ms : List ℕ) (p : ℕ) (l q o e : Page) : Type 0 where
+  pub lines : Wrote (joined (kept_line s ms) p) l q
+  pub lines_most : q.end ≤ l.end + 29 * p
+  pub safe : Wrote (joined (safe_slot s ms) p) o e
+  pub safe_most : e.end ≤ o.end + 4 * p
 
-pub put_as : {s : Shape} {ms : List ℕ} {p : ℕ} {t z o y u v : List ℕ} {l e m f : ℕ}
-    → u ≡ z → v ≡ y → m ≡ l → f ≡ e → PutTo s ms p t z o y l e → PutTo s ms p t u o v m f
-put_as i j k h P = rw (i, j, k, h) P
+pub put_as : {s : Shape} {ms : List ℕ} {p : ℕ} {l q o e u v : Page} → u ≡ q → v ≡ e → PutTo s ms p l q o e → PutTo s ms p l u o v
+put_as i j P = rw (i, j) P
 
-pub put_none : (s : Shape) (ms t o : List ℕ) → PutTo s ms 0 t t o o 0 0
+pub put_none : (s : Shape) (ms : List ℕ) (l o : Page) → PutTo s ms 0 l l o o
 unfolding joined
-put_none s ms t o = record { lines = puts_none t 0; lines_most = omega arith; safe = puts_none o 0; safe_most = omega arith }
+put_none s ms l o = record { lines = wrote_none l; lines_most = omega arith; safe = wrote_none o; safe_most = omega arith }
 
-module _ {s : Shape} {ms : List ℕ} {p : ℕ} {t z o y : List ℕ} {l e : ℕ} (P : PutTo s ms p t z o y l e) where
-  pub put_lost : at ms p ≡ 1 → PutTo s ms (p + 1) t z o y l e
-  put_lost h =
+module _ {s : Shape} {ms : List ℕ} {p : ℕ} {l q o e : Page} (P : PutTo s ms p l q o e) (h : l.end ≤ length l.text.now) (i : o.end ≤ length o.text.now) where
+  pub put_lost : at ms p ≡ 1 → PutTo s ms (p + 1) l q o e
+  put_lost n =
       record {
-        lines = one_more (kept_line s ms) p (line_lost s ms p h) P.lines (puts_none z l);
+        lines = one_more (kept_line s ms) p (line_lost s ms p n) P.lines (wrote_none q) h;
         lines_most = omega arith;
-        safe = one_more (safe_slot s ms) p (safe_lost s ms p h) P.safe (puts_none y e);
+        safe = one_more (safe_slot s ms) p (safe_lost s ms p n) P.safe (wrote_none e) i;
         safe_most = omega arith;
       }
 
-  pub put_kept : {w v : List ℕ} {m f : ℕ} → Family s → (x : Previewed) → at ms p ≢ 1 → x ≡ preview_of s p ms
-      → Puts (slot_line p x.grade x.first) z l w m × (m ≤ l + 29) → Puts (cond (eqb x.grade 4) [] (spaced p)) y e v f × (f ≤ e + 4)
-      → PutTo s ms (p + 1) t w o v m f
+  pub put_kept : {w v : Page} → Family s → (x : Previewed) → at ms p ≢ 1 → x ≡ preview_of s p ms
+      → Wrote (slot_line p x.grade x.first) q w × (w.end ≤ q.end + 29) → Wrote (cond (eqb x.grade 4) [] (spaced p)) e v × (v.end ≤ e.end + 4)
+      → PutTo s ms (p + 1) l w o v
   put_kept F x n d L S =
       record {
-        lines = one_more (kept_line s ms) p (line_kept s ms p x n d) P.lines L.0;
-        lines_most = omega arith;
-        safe = one_more (safe_slot s ms) p (safe_kept s ms p x n d F) P.safe S.0;
-        safe_most = omega arith;
+        lines = one_more (kept_line s ms) p (line_kept s ms p x n d) P.lines L.0 h;
+        lines_most = omega (arith, L.1, P.lines_most);
+        safe = one_more (safe_slot s ms) p (safe_kept s ms p x n d F) P.safe S.0 i;
+        safe_most = omega (arith, S.1, P.safe_most);
       }
 
-  pub put_all : p ≡ s.n → SlotsPut s ms t z o y (record { lines = l; safe = e })
-  put_all h =
-      let Q = subst (λ p. PutTo s ms p t z o y l e) h P in
+  pub put_all : p ≡ s.n → SlotsPut s ms l q o e
+  put_all n =
+      let Q = subst (λ p. PutTo s ms p l q o e) n P in
       record { lines = Q.lines; lines_most = Q.lines_most; safe = Q.safe; safe_most = Q.safe_most }
 
--- y: the text of the safe slots
-module _ {s : Shape} {ms t z o y : List ℕ} {x : Ends} (S : SlotsPut s ms t z o y x) where
-  pub slots_most : Placed s → (x.lines ≤ 7395) × (x.safe ≤ 1020) × (length (take x.safe y) ≡ x.safe)
-  slots_most P = (omega (arith, n_most s P), omega (arith, n_most s P), ap length (front_bytes S.safe) ∙ sym (front_end S.safe))
+-- o: an empty page; e: the page of the safe slots
+module _ {s : Shape} {ms : List ℕ} {p q o e : Page} (S : SlotsPut s ms p q o e) (z : o.end ≡ 0) where
+  pub slots_most : Placed s → (q.end ≤ p.end + 7395) × (e.end ≤ 1020)
+  slots_most P = (omega (arith, n_most s P, S.lines_most), omega (arith, n_most s P, S.safe_most))
 
-  pub slots_lines : {u v w : List ℕ} {m k e : ℕ}
-      → Puts (ascii "safe") z x.lines u m → Puts (take x.safe y) u m v k → Puts (ascii "\n") v k w e → Puts (preview_lines s ms) t 0 w e
+  safe_puts : Puts (joined (safe_slot s ms) s.n) o.text.now 0 e.text.now e.end
+  safe_puts = wrote_front z S.safe
+
+  pub safe_size : length (take e.end e.text.now) ≡ e.end
+  safe_size = ap length (front_bytes safe_puts) ∙ sym (front_end safe_puts)
+
+  pub slots_lines : {u v w : Page} → Wrote (ascii "safe") q u → Wrote (take e.end e.text.now) u v → Wrote (ascii "\n") v w
+      → p.end ≤ length p.text.now → Wrote (preview_lines s ms) p w
   unfolding preview_lines
-  slots_lines p q r = puts_then (puts_then (puts_then S.lines p (omega arith)) (puts_as (front_bytes S.safe) q) (omega arith)) r (omega arith)
+  slots_lines a b c h = wrote_then (wrote_then (wrote_then S.lines a h) (wrote_as (front_bytes safe_puts) b) h) c h
 
 pub small_preview : (s : Shape) (ms : List ℕ) (p : ℕ) (x : Previewed) → Placed s → x ≡ preview_of s p ms → (x.grade < 1000) × (x.first < 1000)
 unfolding preview_of

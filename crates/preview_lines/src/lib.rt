@@ -3,76 +3,65 @@
 
 ghost use Rattle.std.specs.Prelude.{cond, [], ◌+◌, ◌≤◌, ◌<◌, eqb, length};
 ghost use Rattle.grading.specs.Step.{Marked};
-ghost use Rattle.text.specs.Text.{spaced, Puts};
+ghost use Rattle.text.specs.Text.{spaced};
+ghost use Rattle.text.specs.Page.{Wrote};
 ghost use Rattle.preview_lines.specs.Lines.{slot_line, preview_lines};
 ghost use Rattle.preview_lines.specs.Step.{SlotsPut};
 
 use code::Shape;
-
-// The places behind the lines and behind the safe slots.
-#[derive(Clone, Copy)]
-struct Ends {
-    lines: usize,
-    safe: usize,
-}
+use text::Page;
 
 // Puts the line of a slot.
-fn put_slot(text: &mut [u8], at: usize, slot: u32, grade: u32, first: u32) -> usize
-    requires { (at + 29 ≤ length text.old) × (slot < 1000) × (grade < 1000) × (first < 1000) }
-    ensures { Puts (slot_line slot grade first) text.old at text.new result × (result ≤ at + 29) }
+fn put_slot(page: &mut Page<'_>, slot: u32, grade: u32, first: u32)
+    requires { (page.old.end + 29 ≤ length page.old.text.now) × (slot < 1000) × (grade < 1000) × (first < 1000) }
+    ensures { Wrote (slot_line slot grade first) page.old page.new × (page.new.end ≤ page.old.end + 29) }
 {
-    let next = text::put_named(text, at, b"slot", slot);
-    text::put_grade(text, next, grade, first)
+    page.put_named(b"slot", slot);
+    page.put_grade(grade, first);
 }
 
 // Puts a slot whose loss is followed by this grade, where that is not 4.
-fn put_safe(text: &mut [u8], at: usize, slot: u32, grade: u32) -> usize
-    requires { (at + 4 ≤ length text.old) × (slot < 1000) }
-    ensures { Puts (cond (eqb grade 4) [] (spaced slot)) text.old at text.new result × (result ≤ at + 4) }
+fn put_safe(page: &mut Page<'_>, slot: u32, grade: u32)
+    requires { (page.old.end + 4 ≤ length page.old.text.now) × (slot < 1000) }
+    ensures { Wrote (cond (eqb grade 4) [] (spaced slot)) page.old page.new × (page.new.end ≤ page.old.end + 4) }
 {
     let undecided = grade == 4;
     if undecided {
-        return at;
+        return;
     }
-    text::put_spaced(text, at, slot)
+    page.put_spaced(slot);
 }
 
-// Puts the lines of the kept slots to one text, and those that are safe to another.
+// Puts the lines of the kept slots to one page, and those that are safe to another.
 fn put_slots(
     shape: Shape,
     marks: &mut [u8],
     work: &mut [u8],
-    text: &mut [u8],
-    safe: &mut [u8],
-) -> Ends
-    requires { Marked shape marks.old (length work.old) × (7395 ≤ length text.old) × (1020 ≤ length safe.old) }
-    ensures { SlotsPut shape marks.old text.old text.new safe.old safe.new result }
+    page: &mut Page<'_>,
+    safe: &mut Page<'_>,
+)
+    requires { Marked shape marks.old (length work.old) × (page.old.end + 7395 ≤ length page.old.text.now) × (safe.old.end + 1020 ≤ length safe.old.text.now) }
+    ensures { SlotsPut shape marks.old page.old page.new safe.old safe.new }
 {
-    let n = shape.n;
-    let mut lines: usize = 0;
-    let mut last: usize = 0;
-    let mut slot: u32 = 0;
-    while slot < n {
+    for slot in 0..shape.n {
         let kept = marks[slot as usize] != 1;
         if kept {
             let seen = previewing::preview_in(shape, slot, marks, work);
-            lines = put_slot(text, lines, slot, seen.grade, seen.first);
-            last = put_safe(safe, last, slot, seen.grade);
+            put_slot(page, slot, seen.grade, seen.first);
+            put_safe(safe, slot, seen.grade);
         }
-        slot += 1;
     }
-    Ends { lines, safe: last }
 }
 
-// Puts the preview of a stripe by its marks: answers the place behind it.
-pub fn put_stripe(shape: Shape, marks: &mut [u8], work: &mut [u8], text: &mut [u8]) -> usize
-    requires { Marked shape marks.old (length work.old) × (8420 ≤ length text.old) }
-    ensures { Puts (preview_lines shape marks.old) text.old 0 text.new result × (result ≤ 8420) }
+// Puts the preview of a stripe by its marks.
+pub fn put_stripe(shape: Shape, marks: &mut [u8], work: &mut [u8], page: &mut Page<'_>)
+    requires { Marked shape marks.old (length work.old) × (page.old.end + 8420 ≤ length page.old.text.now) }
+    ensures { Wrote (preview_lines shape marks.old) page.old page.new × (page.new.end ≤ page.old.end + 8420) }
 {
-    let mut safe = [0u8; 1020];
-    let ends = put_slots(shape, marks, work, text, &mut safe);
-    let last = ends.safe;
-    let mut next = text::put(text, ends.lines, b"safe");
-    next = text::put(text, next, &safe[..last]);
-    text::put(text, next, b"\n")
+    let mut slots = [0u8; 1020];
+    let mut safe = Page::new(&mut slots);
+    put_slots(shape, marks, work, page, &mut safe);
+    page.put(b"safe");
+    page.put(safe.written());
+    page.put(b"\n");
 }

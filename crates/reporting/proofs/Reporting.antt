@@ -4,13 +4,13 @@
 --   small_record, record_lines     the numbers of a record, and its lines
 --   decodes                        an accepted sheet's stripe passes decode's questions
 --   read_decodes, read_says        what follows where the reader did not refuse
---   says_refused, says_stripe, says_report    the report, from its parts
+--   says_refused, says_stripe, says_page    the report, from its parts
 use mathlib.Core.Path.{◌≡◌, sym, ap, ap₂, ◌∙◌, subst}
 use mathlib.Core.Logic.{◌≢◌}
-use mathlib.Core.List.{List}
+use mathlib.Core.List.{List, ◌++◌}
 use Prim.Native.Nat.{ℕ, ◌≤◌, ◌<◌}
 use native.Mathlib.Omega.{arith}
-use lib.ListN.{length, take}
+use lib.ListN.{length, take, drop}
 use Rattle.algebra.proofs.Booleans.{yes_true}
 use Rattle.code.specs.declared.Code.{Code}
 use Rattle.code.specs.Family.{single, code_refusal}
@@ -32,6 +32,7 @@ use Rattle.sheet.proofs.Accepted.{GoodSheet, good_sheet}
 use Rattle.sheet.proofs.Reading.{Told}
 use Rattle.sheet.proofs.WriteBack.{stripe_again}
 use Rattle.text.specs.Text.{refused_line, stripe_lines, Small, Puts}
+use Rattle.text.specs.declared.Page.{Page}
 use Rattle.text.proofs.Puts.{puts_as, front_end, front_text}
 use Rattle.reporting.specs.Report.{stripe_report, refused, stripe, ReportSays, written}
 use Rattle.reporting.specs.Step.{StripeSays, TextSays}
@@ -93,8 +94,10 @@ module _ (s t z : List ℕ) (x : ℕ) where
       let q = subst (λ c. StripeSays c (symbols_in s) (marks_in s) t z x) e (subst (λ ws. StripeSays c ws (marks_in s) t z x) f (subst (λ ms. StripeSays c ws ms t z x) g p)) in
       record { bytes = stripe_report (code_in s) (marks_in s) q.outcome q.message; report = stripe i q.verdict; puts = q.puts; most = q.most }
 
-  pub says_report : (a : Answer) → 1032 ≤ length t → a.refusal ≡ 0 → a.value ≡ x → TextSays s t z x → ReportSays s t z a
-  says_report a h r v p = written h p.report r (v ∙ front_end p.puts) (front_text p.puts)
+-- p: the page before; q: after
+pub says_page : (s t z : List ℕ) (p q : Page) (a : Answer) → z ≡ q.text.now → p.text.now ≡ t → 1032 ≤ length t → a.refusal ≡ 0 → a.value ≡ q.end
+    → TextSays s p.text.now q.text.now q.end → ReportSays s t z a
+says_page s t z p q a e d h r v T = written h T.report r (v ∙ front_end T.puts) (e ∙ front_text T.puts ∙ ap (λ t. T.bytes ++ drop (length T.bytes) t) d)
 
 -- what follows where the reader did not refuse
 module _ {s b e : List ℕ} {x : Sheet} (t : Told s b e x) where

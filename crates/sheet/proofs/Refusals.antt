@@ -1,6 +1,6 @@
 -- How the questions of a call, asked one after another, make its refusal. Assumes nothing.
 --   read_two          the reader's 5
---   sheet_two, sheet_three    a sheet's 11 and 12
+--   sheet_two, sheet_three, sheet_kind    a sheet's 11 and 12
 --   body_three        its 14, 6 and 15
 --   write_four        the writer's, and question 6 after them
 --   sheet_words_in, write_lengths    what holds where these are ask_passed
@@ -8,6 +8,8 @@ use mathlib.Core.Path.{◌≡◌, refl, sym, ap, ap₂, ◌∙◌}
 use mathlib.Core.Logic.{◌≢◌}
 use mathlib.Core.Bool.{Bool, ◌&&◌}
 use mathlib.Core.List.{List}
+use Rattle.std.specs.Prelude.{Option, Some}
+use Rattle.std.specs.Option.{option_eq}
 use Prim.Native.Nat.{ℕ, ◌+◌, ◌*◌, ◌/◌, ◌%◌, ◌≤◌}
 use lib.Dec.{leb, ltb, eqb, eqb→eq, leb→le}
 use lib.ListN.{length}
@@ -20,6 +22,11 @@ use Rattle.code.specs.Erasure.{kept_below}
 use Rattle.code.specs.declared.Code.{Code}
 use Rattle.code.proofs.Questions.{ask_then, ask_and, ask_yes, or_ask_stop}
 use Rattle.code.proofs.Asking.{after, after_two, ask_passed}
+use Rattle.words.specs.Kind.{KindSays}
+use Rattle.words.specs.declared.Kind.{Kind}
+use Rattle.words.specs.declared.Kind.TheVariants.{Code as code_kind}
+use Rattle.words.specs.contracts.KindPartialEq.TheImpl.{eq-value}
+use Rattle.words.proofs.Words.{code_test}
 use Rattle.words.specs.Word.{word_at, kind, end_word, slot_fits, word_symbol}
 use Rattle.sheet.specs.Sheet.{middle_word, code_in, symbols_in, marks_in}
 use Rattle.sheet.specs.Calls.{body_refusal, sheet_refusal, read_refusal, write_refusal}
@@ -43,6 +50,11 @@ module _ (s : List ℕ) (x y : ℕ) (e : x ≡ or_ask 0 (ask (eqb (length s % 4)
       after_two x y o 11 d z (eqb k 1) f (code_and_body s)
       ∙ after 0 x (eqb (length s % 4) 0) 10 e (ask (o && eqb k 1) 12 (code_and_body s))
       ∙ ap (λ k. ask (eqb (length s % 4) 0) 11 (ask (o && eqb k 1) 12 (code_and_body s))) v
+
+  -- w: the first word; k: its kind; t: the test whether it is a code's
+  pub sheet_kind : (w z : ℕ) (k : Option Kind) (t : Bool) → w ≡ word_at s 0 → KindSays (kind w) k → t ≡ option_eq eq-value.it k (Some code_kind)
+      → z ≡ or_ask y (ask t 12 0) → or_ask z (code_and_body s) ≡ sheet_refusal s
+  sheet_kind w z k t e h g f = sheet_three (kind w) z (ap (λ w. kind w) e) (f ∙ ap (λ b. or_ask y (ask b 12 0)) (g ∙ code_test (kind w) k h))
 
   pub sheet_two : y ≢ 0 → y ≡ sheet_refusal s
   sheet_two n =

@@ -10,6 +10,7 @@ ghost use Rattle.sheet.specs.Calls.{body_refusal, sheet_refusal, read_refusal, w
 ghost use Rattle.sheet.specs.Step.{put_slots};
 
 use code::Code;
+use words::Kind;
 
 // The code of a sheet, or the refusal of it.
 #[derive(Clone, Copy)]
@@ -23,13 +24,11 @@ fn slots_fit(sheet: &[u8], n: u32) -> bool
     requires { (n < 256) × (4 * (n + 2) ≤ length sheet.now) }
     ensures { result ≡ every (λ p. slot_fits p (middle_word sheet.now p)) n }
 {
-    let mut p: u32 = 0;
-    while p < n {
+    for p in 0..n {
         let w = words::word_at(sheet, p as usize + 1);
         if !words::slot_fits(p, w) {
             return false;
         }
-        p += 1;
     }
     true
 }
@@ -39,13 +38,11 @@ fn symbols_fit(sheet: &[u8], n: u32, q: u32) -> bool
     requires { (n < 256) × (4 * (n + 2) ≤ length sheet.now) }
     ensures { result ≡ every (λ p. ltb (word_symbol (middle_word sheet.now p)) q) n }
 {
-    let mut p: u32 = 0;
-    while p < n {
+    for p in 0..n {
         let s = words::word_symbol(words::word_at(sheet, p as usize + 1));
-        if s as u32 >= q {
+        if u32::from(s) >= q {
             return false;
         }
-        p += 1;
     }
     true
 }
@@ -56,12 +53,10 @@ fn fill(sheet: &[u8], n: usize, word: &mut [u8], marks: &mut [u8])
     ensures word_after { word.new ≡ tabulate (λ p. word_symbol (middle_word sheet.now p)) n ++ drop n word.old }
     ensures marks_after { marks.new ≡ tabulate (λ p. word_mark (middle_word sheet.now p)) n ++ drop n marks.old }
 {
-    let mut p: usize = 0;
-    while p < n {
+    for p in 0..n {
         let w = words::word_at(sheet, p + 1);
         word[p] = words::word_symbol(w);
         marks[p] = words::word_mark(w);
-        p += 1;
     }
 }
 
@@ -90,7 +85,7 @@ fn sheet_refusal(sheet: &[u8]) -> u32
         return b;
     }
     let w = words::word_at(sheet, 0);
-    let c = questions::ask(b, words::kind_of(w) == 1, 12);
+    let c = questions::ask(b, words::kind_of(w) == Some(Kind::Code), 12);
     if c != 0 {
         return c;
     }
@@ -166,11 +161,9 @@ fn write_slots(word: &[u8], marks: &[u8], sheet: &mut [u8])
     requires { (length word.now < 256) × (length marks.now ≡ length word.now) × (4 * (length word.now + 1) ≤ length sheet.old) }
     ensures { sheet.new ≡ put_slots sheet.old word.now marks.now (length word.now) }
 {
-    let mut p: usize = 0;
-    while p < word.len() {
+    for p in 0..word.len() {
         let w = words::slot_word(p as u32, word, marks);
         words::put_word(sheet, p + 1, w);
-        p += 1;
     }
 }
 

@@ -1,22 +1,24 @@
 -- Text written piece by piece, and the digits of numerals. Assumes nothing.
 --   puts_then, puts_as               one piece behind another; an equal piece
---   puts_none, puts_laid, puts_byte  nothing; a copied piece; one byte
---   front_end, front_text, front_bytes    what was put in front of a text
---   puts_no_symbols, puts_symbol, puts_symbols    the symbols of a message
+--   puts_none, puts_part             nothing; a copied piece
+--   wrote_part, wrote_then, wrote_as, wrote_none    the same of a page
+--   wrote_front, front_end, front_text, front_bytes    what was put in front of a text
+--   wrote_no_symbols, wrote_symbol   the symbols of a message
 --   numeral_1, numeral_2, numeral_3  numerals of one, two and three digits
 use mathlib.Core.Path.{◌≡◌, refl, sym, ap, ap₂, ◌∙◌, subst}
 use mathlib.Core.List.{List, [], ◌∷◌, ◌++◌, append-nil, append_assoc}
-use Prim.Native.Nat.{ℕ, zero, suc, ◌+◌, ◌/◌, ◌%◌, ◌≤◌, ◌<◌}
+use Prim.Native.Nat.{ℕ, zero, suc, ◌+◌, ◌-◌, ◌/◌, ◌%◌, ◌≤◌, ◌<◌}
 use native.Mathlib.Nat.{add-zero, zero-add}
 use native.Mathlib.Numerals.{add-one}
 use native.Mathlib.Omega.{arith}
-use lib.ListN.{length, take, drop, set, length-append, take-append-drop}
-use lib.Seq.{take_at, drop_at, drop-drop, length-take-le, take_all, take-suc, set_split, append_snoc}
+use lib.ListN.{length, take, drop, length-append, length-drop, take-append-drop}
+use lib.Seq.{take_at, drop_at, drop-drop, length-take-le, take-suc}
 use Rattle.algebra.specs.Sequence.{at}
-use Rattle.algebra.specs.Writing.{Laid}
-use Rattle.algebra.proofs.Splicing.{laid_splice}
+use borrow.Rule.Slice.PartMut.{put_mid, Post-is}
 use borrow.Author.Tests.{lt-ltb, le-ltb}
 use Rattle.text.specs.Text.{numeral_from, numeral, spaced, all_spaced, written_at, Puts}
+use Rattle.text.specs.Page.{Wrote}
+use Rattle.text.specs.declared.Page.{Page}
 
 pub puts_then : {xs ys t u v : List ℕ} {a m x : ℕ} → Puts xs t a u m → Puts ys u m v x → a ≤ length t → Puts (xs ++ ys) t a v x
 unfolding written_at
@@ -52,21 +54,33 @@ puts_none t a =
       text = sym (ap₂ (λ f n. f ++ drop n t) (append-nil (take a t)) (add-zero a) ∙ take-append-drop a t);
     }
 
-pub puts_laid : (bs t z : List ℕ) (a n : ℕ) → n ≡ length bs → a + n ≤ length t → Laid (λ i. at bs (0 + i)) a n t z → Puts bs t a z (a + n)
+pub puts_part : (bs t : List ℕ) (a : ℕ) → Puts bs t a (put_mid a (a + length bs - a) t bs) (a + length bs)
 unfolding written_at
-puts_laid bs t z a n e l L =
+puts_part bs t a =
     record {
-      end = ap (λ n. a + n) e;
-      text =
-          laid_splice bs (λ i. at bs (0 + i)) n (sym e) (λ i h. ap (at bs) (zero-add i)) t z a l L
-          ∙ sym (append_assoc (take a t) bs (drop n (drop a t)))
-          ∙ ap (λ ys. (take a t ++ bs) ++ ys) (drop-drop n a t ∙ ap (λ n. drop (a + n) t) e);
+      end = refl;
+      text = sym (append_assoc (take a t) bs _) ∙ ap (λ ys. take a t ++ bs ++ ys) (Post-is a (a + length bs) t (omega arith));
     }
 
-pub puts_byte : (t : List ℕ) (a b : ℕ) → a < length t → Puts (b ∷ []) t a (set t a b) (a + 1)
+puts_size : {bs t z : List ℕ} {a x : ℕ} → Puts bs t a z x → x ≤ length t → length z ≡ length t
 unfolding written_at
-puts_byte t a b h =
-    record { end = refl; text = set_split t a b h ∙ sym (append_snoc (take a t) b (drop (suc a) t)) ∙ ap (λ n. take a t ++ (b ∷ []) ++ drop n t) (sym (add-one a)) }
+puts_size {bs} {t} {z} {a} {x} p h =
+    let front = take a t ++ bs in
+    let back = drop (a + length bs) t in
+    omega (arith, ap length p.text, length-append front back, length-append (take a t) bs, length-take-le a t (omega (arith, p.end)), length-drop (a + length bs) t, p.end)
+
+-- the same of a page
+pub wrote_part : {bs : List ℕ} {p q : Page} → q.text.ghost_name ≡ p.text.ghost_name → Puts bs p.text.now p.end q.text.now q.end → q.end ≤ length p.text.now → Wrote bs p q
+wrote_part e p h = record { same_text = e; same_size = puts_size p h; puts = p }
+
+pub wrote_then : {xs ys : List ℕ} {p q r : Page} → Wrote xs p q → Wrote ys q r → p.end ≤ length p.text.now → Wrote (xs ++ ys) p r
+wrote_then P Q h = record { same_text = Q.same_text ∙ P.same_text; same_size = Q.same_size ∙ P.same_size; puts = puts_then P.puts Q.puts h }
+
+pub wrote_as : {xs ys : List ℕ} {p q : Page} → xs ≡ ys → Wrote xs p q → Wrote ys p q
+wrote_as {xs} {ys} {p} {q} e P = subst (λ bs. Wrote bs p q) e P
+
+pub wrote_none : (p : Page) → Wrote [] p p
+wrote_none p = record { same_text = refl; same_size = refl; puts = puts_none p.text.now p.end }
 
 module _ {bs t z : List ℕ} {x : ℕ} (p : Puts bs t 0 z x) where
   pub front_end : x ≡ length bs
@@ -78,6 +92,9 @@ module _ {bs t z : List ℕ} {x : ℕ} (p : Puts bs t 0 z x) where
 
   pub front_bytes : take x z ≡ bs
   front_bytes = ap (take x) front_text ∙ take_at bs (drop (length bs) t) x (sym front_end)
+
+pub wrote_front : {bs : List ℕ} {p q : Page} → p.end ≡ 0 → Wrote bs p q → Puts bs p.text.now 0 q.text.now q.end
+wrote_front {bs} {p} {q} e P = subst (λ a. Puts bs p.text.now a q.text.now q.end) e P.puts
 
 one : (f n : ℕ) → n < 10 → numeral_from (suc f) n ≡ (48 + n) ∷ []
 unfolding numeral_from
@@ -114,14 +131,11 @@ unfolding all_spaced
 append_spaced [] x = append-nil (spaced x)
 append_spaced (y ∷ xs) x = ap (λ zs. spaced y ++ zs) (append_spaced xs x) ∙ sym (append_assoc (spaced y) (all_spaced xs) (spaced x))
 
-pub puts_no_symbols : (xs t : List ℕ) (a : ℕ) → Puts (all_spaced (take 0 xs)) t a t a
+pub wrote_no_symbols : (xs : List ℕ) (p : Page) → Wrote (all_spaced (take 0 xs)) p p
 unfolding all_spaced
-puts_no_symbols xs t a = puts_none t a
+wrote_no_symbols xs p = wrote_none p
 
-pub puts_symbol : {t u v : List ℕ} {a m x : ℕ} (xs : List ℕ) (i : ℕ) → i < length xs → Puts (all_spaced (take i xs)) t a u m → Puts (spaced (at xs i)) u m v x
-    → a ≤ length t → Puts (all_spaced (take (i + 1) xs)) t a v x
-puts_symbol xs i l p q h =
-    puts_as (sym (append_spaced (take i xs) (at xs i)) ∙ ap all_spaced (sym (ap (λ n. take n xs) (add-one i) ∙ take-suc xs i 0 l))) (puts_then p q h)
-
-pub puts_symbols : {t z : List ℕ} {a x : ℕ} (xs : List ℕ) (i : ℕ) → length xs ≤ i → Puts (all_spaced (take i xs)) t a z x → Puts (all_spaced xs) t a z x
-puts_symbols xs i l p = puts_as (ap all_spaced (take_all i xs l)) p
+pub wrote_symbol : {p q r : Page} (xs : List ℕ) (i : ℕ) → i < length xs → Wrote (all_spaced (take i xs)) p q → Wrote (spaced (at xs i)) q r
+    → p.end ≤ length p.text.now → Wrote (all_spaced (take (i + 1) xs)) p r
+wrote_symbol xs i l P Q h =
+    wrote_as (sym (append_spaced (take i xs) (at xs i)) ∙ ap all_spaced (sym (ap (λ n. take n xs) (add-one i) ∙ take-suc xs i 0 l))) (wrote_then P Q h)

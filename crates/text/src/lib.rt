@@ -1,161 +1,182 @@
 // The report's text, written into a lent buffer piece by piece.
 #![tactic(auto)]
 
-ghost use Rattle.std.specs.Prelude.{[], ◌∷◌, ◌++◌, ◌+◌, ◌*◌, ◌≤◌, ◌<◌, length};
-ghost use Rattle.text.specs.Text.{numeral, spaced, all_spaced, refused_line, wiring_mark, code_line, grade_end, losses_line, message_line, stripe_lines, Small, Puts};
+ghost use Rattle.std.specs.Prelude.{[], ◌∷◌, ◌≡◌, ◌++◌, ◌+◌, ◌*◌, ◌≤◌, ◌<◌, length, take};
+ghost use Rattle.text.specs.Text.{numeral, spaced, all_spaced, refused_line, wiring_mark, code_line, grade_end, losses_line, message_line, stripe_lines, Small};
+ghost use Rattle.text.specs.Page.{Wrote};
 
 use code::Code;
 
-// Copies bytes into the text: answers the place behind them.
-pub fn put(text: &mut [u8], at: usize, bytes: &[u8]) -> usize
-    requires { at + length bytes.now ≤ length text.old }
-    ensures { Puts bytes.now text.old at text.new result }
-{
-    let n = bytes.len();
-    copying::copy(bytes, 0, n, text, at);
-    at + n
+// A lent text that is written from its front on: `end` is the place behind what was put.
+#[derive(Drop)]
+pub struct Page<'a> {
+    pub text: &'a mut [u8],
+    pub end: usize,
 }
 
-// Puts one digit.
-pub fn put_digit(text: &mut [u8], at: usize, d: u32) -> usize
-    requires { (at < length text.old) × (d < 10) }
-    ensures { Puts ((48 + d) ∷ []) text.old at text.new result }
-{
-    text[at] = (48 + d) as u8;
-    at + 1
-}
-
-// Puts a numeral of at most three digits.
-pub fn put_number(text: &mut [u8], at: usize, n: u32) -> usize
-    requires { (at + 3 ≤ length text.old) × (n < 1000) }
-    ensures { Puts (numeral n) text.old at text.new result × (result ≤ at + 3) }
-{
-    if n < 10 {
-        return put_digit(text, at, n);
+impl<'a> Page<'a> {
+    // A page with nothing put yet.
+    pub fn new(text: &'a mut [u8]) -> Page<'a>
+        ensures same_text { result.text.ghost_name ≡ text.entry.ghost_name }
+        ensures empty { (result.text.now ≡ text.old) × (result.end ≡ 0) }
+    {
+        Page { text, end: 0 }
     }
-    if n < 100 {
-        let ones = put_digit(text, at, n / 10);
-        return put_digit(text, ones, n % 10);
+
+    // What was put.
+    pub fn written(&self) -> &[u8]
+        requires { self.now.end ≤ length self.now.text.now }
+        ensures { result.now ≡ take self.now.end self.now.text.now }
+    {
+        &self.text[..self.end]
     }
-    let tens = put_digit(text, at, n / 100);
-    let ones = put_digit(text, tens, n / 10 % 10);
-    put_digit(text, ones, n % 10)
-}
 
-// Puts a space and a numeral.
-pub fn put_spaced(text: &mut [u8], at: usize, n: u32) -> usize
-    requires { (at + 4 ≤ length text.old) × (n < 1000) }
-    ensures { Puts (spaced n) text.old at text.new result × (result ≤ at + 4) }
-{
-    let next = put(text, at, b" ");
-    put_number(text, next, n)
-}
-
-// Puts a word, a space and a numeral.
-pub fn put_named(text: &mut [u8], at: usize, name: &[u8], n: u32) -> usize
-    requires { (at + length name.now + 4 ≤ length text.old) × (n < 1000) }
-    ensures { Puts (name.now ++ spaced n) text.old at text.new result × (result ≤ at + length name.now + 4) }
-{
-    let next = put(text, at, name);
-    put_spaced(text, next, n)
-}
-
-// Puts the line of a refusal.
-pub fn put_refused(text: &mut [u8], at: usize, refusal: u32) -> usize
-    requires { (at + 12 ≤ length text.old) × (refusal < 1000) }
-    ensures { Puts (refused_line refusal) text.old at text.new result × (result ≤ at + 12) }
-{
-    let next = put_named(text, at, b"refused", refusal);
-    put(text, next, b"\n")
-}
-
-// Puts the wiring, under wiring 1 alone.
-fn put_wiring(text: &mut [u8], at: usize, wiring: u32) -> usize
-    requires { at + 4 ≤ length text.old }
-    ensures { Puts (wiring_mark wiring) text.old at text.new result × (result ≤ at + 4) }
-{
-    let unwired = wiring != 1;
-    if unwired {
-        return at;
+    // Puts bytes.
+    pub fn put(&mut self, bytes: &[u8])
+        requires { self.old.end + length bytes.now ≤ length self.old.text.now }
+        ensures { Wrote bytes.now self.old self.new }
+    {
+        let end = self.end + bytes.len();
+        self.text[self.end..end].copy_from_slice(bytes);
+        self.end = end;
     }
-    put_spaced(text, at, wiring)
-}
 
-// Puts the line of a code.
-pub fn put_code(text: &mut [u8], at: usize, code: Code) -> usize
-    requires { (at + 25 ≤ length text.old) × (code.field < 1000) × (code.r < 1000) × (code.n < 1000) × (code.k < 1000) }
-    ensures { Puts (code_line code) text.old at text.new result × (result ≤ at + 25) }
-{
-    let mut next = put_named(text, at, b"code", code.field);
-    next = put_spaced(text, next, code.r);
-    next = put_spaced(text, next, code.n);
-    next = put_spaced(text, next, code.k);
-    next = put_wiring(text, next, code.wiring);
-    put(text, next, b"\n")
-}
-
-// Puts the end of a line: the grade and the first broken group.
-pub fn put_grade(text: &mut [u8], at: usize, grade: u32, first: u32) -> usize
-    requires { (at + 21 ≤ length text.old) × (grade < 1000) × (first < 1000) }
-    ensures { Puts (grade_end grade first) text.old at text.new result × (result ≤ at + 21) }
-{
-    let mut next = put_named(text, at, b" grade", grade);
-    next = put_named(text, next, b" first", first);
-    put(text, next, b"\n")
-}
-
-// Puts the line of the losses.
-pub fn put_losses(text: &mut [u8], at: usize, lost: u32, sure: u32, grade: u32, first: u32) -> usize
-    requires { (at + 38 ≤ length text.old) × (lost < 1000) × (sure < 1000) × (grade < 1000) × (first < 1000) }
-    ensures { Puts (losses_line lost sure grade first) text.old at text.new result × (result ≤ at + 38) }
-{
-    let mut next = put_named(text, at, b"lost", lost);
-    next = put_named(text, next, b" sure", sure);
-    put_grade(text, next, grade, first)
-}
-
-// Puts the symbols of a message, a space before each.
-pub fn put_symbols(text: &mut [u8], at: usize, symbols: &[u8]) -> usize
-    requires { at + 4 * length symbols.now ≤ length text.old }
-    ensures { Puts (all_spaced symbols.now) text.old at text.new result × (result ≤ at + 4 * length symbols.now) }
-{
-    let mut next = at;
-    let mut i: usize = 0;
-    while i < symbols.len() {
-        next = put_spaced(text, next, symbols[i] as u32);
-        i += 1;
+    // Puts one digit.
+    fn put_digit(&mut self, d: u32)
+        requires { (self.old.end < length self.old.text.now) × (d < 10) }
+        ensures { Wrote ((48 + d) ∷ []) self.old self.new }
+    {
+        self.put(&[(48 + d) as u8]);
     }
-    next
-}
 
-// Puts the line of a message.
-pub fn put_message(text: &mut [u8], at: usize, message: &[u8]) -> usize
-    requires { at + 8 + 4 * length message.now ≤ length text.old }
-    ensures { Puts (message_line message.now) text.old at text.new result × (result ≤ at + 8 + 4 * length message.now) }
-{
-    let mut next = put(text, at, b"message");
-    next = put_symbols(text, next, message);
-    put(text, next, b"\n")
-}
+    // Puts a numeral of at most three digits.
+    pub fn put_number(&mut self, n: u32)
+        requires { (self.old.end + 3 ≤ length self.old.text.now) × (n < 1000) }
+        ensures { Wrote (numeral n) self.old self.new × (self.new.end ≤ self.old.end + 3) }
+    {
+        if n < 10 {
+            self.put_digit(n);
+        } else if n < 100 {
+            self.put_digit(n / 10);
+            self.put_digit(n % 10);
+        } else {
+            self.put_digit(n / 100);
+            self.put_digit(n / 10 % 10);
+            self.put_digit(n % 10);
+        }
+    }
 
-// Puts the lines of a stripe: its code, its losses, and its message or the outcome's number.
-pub fn put_lines(
-    text: &mut [u8],
-    code: Code,
-    lost: u32,
-    sure: u32,
-    grade: u32,
-    first: u32,
-    outcome: u32,
-    message: &[u8],
-) -> usize
-    requires { (1032 ≤ length text.old) × (length message.now ≤ 240) × Small code lost sure grade first outcome }
-    ensures { Puts (stripe_lines code lost sure grade first outcome message.now) text.old 0 text.new result × (result ≤ 1032) }
-{
-    let mut next = put_code(text, 0, code);
-    next = put_losses(text, next, lost, sure, grade, first);
-    match outcome {
-        0 => put_message(text, next, message),
-        _ => put_refused(text, next, outcome),
+    // Puts a space and a numeral.
+    pub fn put_spaced(&mut self, n: u32)
+        requires { (self.old.end + 4 ≤ length self.old.text.now) × (n < 1000) }
+        ensures { Wrote (spaced n) self.old self.new × (self.new.end ≤ self.old.end + 4) }
+    {
+        self.put(b" ");
+        self.put_number(n);
+    }
+
+    // Puts a word, a space and a numeral.
+    pub fn put_named(&mut self, name: &[u8], n: u32)
+        requires { (self.old.end + length name.now + 4 ≤ length self.old.text.now) × (n < 1000) }
+        ensures { Wrote (name.now ++ spaced n) self.old self.new × (self.new.end ≤ self.old.end + length name.now + 4) }
+    {
+        self.put(name);
+        self.put_spaced(n);
+    }
+
+    // Puts the line of a refusal.
+    pub fn put_refused(&mut self, refusal: u32)
+        requires { (self.old.end + 12 ≤ length self.old.text.now) × (refusal < 1000) }
+        ensures { Wrote (refused_line refusal) self.old self.new × (self.new.end ≤ self.old.end + 12) }
+    {
+        self.put_named(b"refused", refusal);
+        self.put(b"\n");
+    }
+
+    // Puts the wiring, under wiring 1 alone.
+    fn put_wiring(&mut self, wiring: u32)
+        requires { self.old.end + 4 ≤ length self.old.text.now }
+        ensures { Wrote (wiring_mark wiring) self.old self.new × (self.new.end ≤ self.old.end + 4) }
+    {
+        let unwired = wiring != 1;
+        if unwired {
+            return;
+        }
+        self.put_spaced(wiring);
+    }
+
+    // Puts the line of a code.
+    fn put_code(&mut self, code: Code)
+        requires { (self.old.end + 25 ≤ length self.old.text.now) × (code.field < 1000) × (code.r < 1000) × (code.n < 1000) × (code.k < 1000) }
+        ensures { Wrote (code_line code) self.old self.new × (self.new.end ≤ self.old.end + 25) }
+    {
+        self.put_named(b"code", code.field);
+        self.put_spaced(code.r);
+        self.put_spaced(code.n);
+        self.put_spaced(code.k);
+        self.put_wiring(code.wiring);
+        self.put(b"\n");
+    }
+
+    // Puts the end of a line: the grade and the first broken group.
+    pub fn put_grade(&mut self, grade: u32, first: u32)
+        requires { (self.old.end + 21 ≤ length self.old.text.now) × (grade < 1000) × (first < 1000) }
+        ensures { Wrote (grade_end grade first) self.old self.new × (self.new.end ≤ self.old.end + 21) }
+    {
+        self.put_named(b" grade", grade);
+        self.put_named(b" first", first);
+        self.put(b"\n");
+    }
+
+    // Puts the line of the losses.
+    fn put_losses(&mut self, lost: u32, sure: u32, grade: u32, first: u32)
+        requires { (self.old.end + 38 ≤ length self.old.text.now) × (lost < 1000) × (sure < 1000) × (grade < 1000) × (first < 1000) }
+        ensures { Wrote (losses_line lost sure grade first) self.old self.new × (self.new.end ≤ self.old.end + 38) }
+    {
+        self.put_named(b"lost", lost);
+        self.put_named(b" sure", sure);
+        self.put_grade(grade, first);
+    }
+
+    // Puts the symbols of a message, a space before each.
+    fn put_symbols(&mut self, symbols: &[u8])
+        requires { self.old.end + 4 * length symbols.now ≤ length self.old.text.now }
+        ensures { Wrote (all_spaced symbols.now) self.old self.new × (self.new.end ≤ self.old.end + 4 * length symbols.now) }
+    {
+        for symbol in symbols {
+            self.put_spaced(u32::from(*symbol));
+        }
+    }
+
+    // Puts the line of a message.
+    fn put_message(&mut self, message: &[u8])
+        requires { self.old.end + 8 + 4 * length message.now ≤ length self.old.text.now }
+        ensures { Wrote (message_line message.now) self.old self.new × (self.new.end ≤ self.old.end + 8 + 4 * length message.now) }
+    {
+        self.put(b"message");
+        self.put_symbols(message);
+        self.put(b"\n");
+    }
+
+    // Puts the lines of a stripe: its code, its losses, and its message or the outcome's number.
+    pub fn put_lines(
+        &mut self,
+        code: Code,
+        lost: u32,
+        sure: u32,
+        grade: u32,
+        first: u32,
+        outcome: u32,
+        message: &[u8],
+    )
+        requires { (self.old.end + 1032 ≤ length self.old.text.now) × (length message.now ≤ 240) × Small code lost sure grade first outcome }
+        ensures { Wrote (stripe_lines code lost sure grade first outcome message.now) self.old self.new × (self.new.end ≤ self.old.end + 1032) }
+    {
+        self.put_code(code);
+        self.put_losses(lost, sure, grade, first);
+        match outcome {
+            0 => self.put_message(message),
+            _ => self.put_refused(outcome),
+        }
     }
 }

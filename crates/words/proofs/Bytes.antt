@@ -1,13 +1,14 @@
 -- A row of words as bytes, and a word written into it. Assumes nothing.
 --   bytes_append, length_bytes    a row of words
---   put_sets, put_more            a word written by four stores; after what stands before it
+--   put_part, put_more            a word written as four bytes; after what stands before it
 --   take_put                      the first word, written
 use mathlib.Core.Path.{◌≡◌, refl, sym, ap, ap₂, ◌∙◌}
 use mathlib.Core.List.{List, [], ◌∷◌, ◌++◌, append_assoc}
-use Prim.Native.Nat.{ℕ, suc, ◌+◌, ◌*◌, ◌/◌, ◌%◌, ◌≤◌}
+use Prim.Native.Nat.{ℕ, ◌+◌, ◌-◌, ◌*◌, ◌/◌, ◌%◌, ◌<◌}
 use native.Mathlib.Omega.{arith}
-use lib.ListN.{length, take, drop, set}
-use lib.Seq.{sets-eq, take_at, drop_at, drop-drop}
+use lib.ListN.{length, take, drop}
+use borrow.Rule.Slice.PartMut.{put_mid, Post-is}
+use lib.Seq.{take_at, drop_at, drop-drop}
 use Rattle.words.specs.Word.{word_bytes, bytes}
 use Rattle.words.specs.Step.{put_word}
 
@@ -21,14 +22,15 @@ unfolding bytes word_bytes
 length_bytes [] = refl
 length_bytes (x ∷ xs) = let e = length_bytes xs in omega arith
 
-pub put_sets : (s : List ℕ) (i w : ℕ) → 4 * i + 4 ≤ length s
-    → set (set (set (set s (4 * i) (w / 0x1000000)) (4 * i + 1) (w / 0x10000 % 256)) (4 * i + 2) (w / 256 % 256)) (4 * i + 3) (w % 256) ≡ put_word s i w
+pub put_part : (s : List ℕ) (i w : ℕ) → w < 0x100000000
+    → put_mid (4 * i) (4 * i + 4 - 4 * i) s (w / 0x1000000 % 256 ∷ w / 0x10000 % 256 ∷ w / 256 % 256 ∷ w % 256 ∷ []) ≡ put_word s i w
 unfolding put_word word_bytes
-put_sets s i w h =
-    let e₁ : 4 * i + 1 ≡ suc (4 * i) = omega arith in
-    let e₂ : 4 * i + 2 ≡ suc (suc (4 * i)) = omega arith in
-    let e₃ : 4 * i + 3 ≡ suc (suc (suc (4 * i))) = omega arith in
-    rw (e₁, e₂, e₃) (sets-eq (word_bytes w) s (4 * i) h)
+put_part s i w h =
+    let bs = w / 0x1000000 % 256 ∷ w / 0x10000 % 256 ∷ w / 256 % 256 ∷ w % 256 ∷ [] in
+    let e : w / 0x1000000 % 256 ≡ w / 0x1000000 = omega arith in
+    let f = Post-is (4 * i) (4 * i + 4) s (omega arith) in
+    sym (append_assoc (take (4 * i) s) bs _)
+    ∙ ap₂ (λ (b : ℕ) (y : List ℕ). take (4 * i) s ++ (b ∷ w / 0x10000 % 256 ∷ w / 256 % 256 ∷ w % 256 ∷ []) ++ y) e f
 
 pub put_more : (a d : List ℕ) (i w : ℕ) → length a ≡ 4 * i → put_word (a ++ drop (4 * i) d) i w ≡ (a ++ word_bytes w) ++ drop (4 * (i + 1)) d
 unfolding put_word

@@ -3,6 +3,7 @@
 --   slot_kept, slot_lost, slot_none   the word of a slot, by its kind
 --   word_of_bytes, bytes_of_word      a word and its bytes
 --   code_of_word, word_of_code        a code word and its code
+--   code_test, lost_test              the test whether a word is of a kind
 use mathlib.Core.Path.{◌≡◌, refl, sym, ap, ap₂, ◌∙◌}
 use mathlib.Core.Bool.{Bool, true, false, ◌||◌}
 use mathlib.Core.List.{[], ◌∷◌}
@@ -11,10 +12,16 @@ use native.Mathlib.Omega.{arith}
 use lib.Dec.{eqb}
 use borrow.Author.Tests.{eq-eqb, ne_eqb}
 use Rattle.algebra.proofs.Equality.{Same, same, other, same?}
-use Rattle.code.specs.declared.Code.{Code}
+use Rattle.code.specs.declared.Code.{Code as Coded}
 use Rattle.code.specs.Family.{code_of}
 use Rattle.words.specs.Word.{word, word_bytes, kind, code_word, kept_word, lost_word, word_code, slot_fits}
 use Rattle.words.specs.Step.{Narrow}
+use Rattle.words.specs.Kind.{KindSays}
+use Rattle.words.specs.declared.Kind.{Kind}
+use Rattle.words.specs.declared.Kind.TheVariants.{Code, Kept, Lost, End}
+use Rattle.words.specs.contracts.KindPartialEq.TheImpl.{eq-value}
+use Rattle.std.specs.Option.{option_eq}
+use Rattle.std.specs.Prelude.{Option, Some, None}
 
 pub eqb_same : (a b c d : ℕ) → (a ≡ b → c ≡ d) → (c ≡ d → a ≡ b) → eqb a b ≡ eqb c d
 eqb_same a b c d f g = go (eqb a b) (same? a b)
@@ -65,16 +72,16 @@ bytes_of_word a b c d i j k l =
     cc
 
 -- the code of a code word, and the word of its code
-code_same : (c d : Code) → c.field ≡ d.field → c.r ≡ d.r → c.n ≡ d.n → c.k ≡ d.k → c.wiring ≡ d.wiring → c ≡ d
+code_same : (c d : Coded) → c.field ≡ d.field → c.r ≡ d.r → c.n ≡ d.n → c.k ≡ d.k → c.wiring ≡ d.wiring → c ≡ d
 code_same c d e₁ e₂ e₃ e₄ e₅ =
     ap₂ (λ f r. code_of f r c.n c.k c.wiring) e₁ e₂ ∙ ap₂ (λ n k. code_of d.field d.r n k c.wiring) e₃ e₄
     ∙ ap (code_of d.field d.r d.n d.k) e₅
 
-pub kind_code : (c : Code) → Narrow c → kind (code_word c) ≡ 1
+pub kind_code : (c : Coded) → Narrow c → kind (code_word c) ≡ 1
 unfolding code_word
 kind_code c b = omega arith
 
-pub code_of_word : (c : Code) → Narrow c → word_code (code_word c) ≡ c
+pub code_of_word : (c : Coded) → Narrow c → word_code (code_word c) ≡ c
 unfolding code_word
 code_of_word c b = code_same (word_code (code_word c)) c (omega arith) (omega arith) (omega arith) (omega arith) (omega arith)
 
@@ -86,3 +93,18 @@ word_of_code w e =
     let e₃ : w / 0x8000000 ≡ w / 0x1000000 / 8 = omega arith in
     let e₄ : w / 0x10000000 ≡ w / 0x8000000 / 2 = omega arith in
     omega arith
+
+-- the test whether a word is of a kind, by the kind's number
+pub code_test : (n : ℕ) (x : Option Kind) → KindSays n x → option_eq eq-value.it x (Some Code) ≡ eqb n 1
+code_test n None h = sym (ne_eqb n 1 (λ e. h Code (sym e)))
+code_test n (Some Code) e = ap (λ m. eqb m 1) e
+code_test n (Some Kept) e = ap (λ m. eqb m 1) e
+code_test n (Some Lost) e = ap (λ m. eqb m 1) e
+code_test n (Some End) e = ap (λ m. eqb m 1) e
+
+pub lost_test : (n : ℕ) (x : Option Kind) → KindSays n x → option_eq eq-value.it x (Some Lost) ≡ eqb n 3
+lost_test n None h = sym (ne_eqb n 3 (λ e. h Lost (sym e)))
+lost_test n (Some Code) e = ap (λ m. eqb m 3) e
+lost_test n (Some Kept) e = ap (λ m. eqb m 3) e
+lost_test n (Some Lost) e = ap (λ m. eqb m 3) e
+lost_test n (Some End) e = ap (λ m. eqb m 3) e

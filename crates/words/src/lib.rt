@@ -3,25 +3,48 @@
 
 ghost use Rattle.std.specs.Prelude.{◌≡◌, false, ◌+◌, ◌*◌, ◌≤◌, ◌<◌, length};
 ghost use Rattle.code.specs.Decoding.{lost};
-ghost use Rattle.words.specs.Word.{word, word_at, kind, code_word, end_word, slot_word, word_code, slot_fits, word_symbol, word_mark};
+ghost use Rattle.words.specs.Word.{word_at, kind, code_word, end_word, slot_word, word_code, slot_fits, word_symbol, word_mark};
 ghost use Rattle.words.specs.Step.{Narrow, put_word};
+ghost use Rattle.words.specs.Kind.{number, NumberSays, KindSays};
 
 use code::Code;
 
-// The word of four bytes, the high byte first.
-fn word_of(a: u8, b: u8, c: u8, d: u8) -> u32
-    ensures { result ≡ word a b c d }
-{
-    ((a as u32 * 256 + b as u32) * 256 + c as u32) * 256 + d as u32
+// The kinds of words, by the number in a word's top four bits.
+#[derive(Clone, Copy, PartialEq, Eq)]
+pub enum Kind {
+    Code = 1,
+    Kept = 2,
+    Lost = 3,
+    End = 4,
 }
 
-// Word i of a sheet.
+// A number that names no kind.
+#[derive(Clone, Copy, PartialEq, Eq)]
+pub struct NoKind;
+
+impl TryFrom<u32> for Kind {
+    type Error = NoKind;
+
+    ghost try_from_gives = { NumberSays };
+
+    fn try_from(number: u32) -> Result<Self, NoKind> {
+        match number {
+            1 => Ok(Kind::Code),
+            2 => Ok(Kind::Kept),
+            3 => Ok(Kind::Lost),
+            4 => Ok(Kind::End),
+            _ => Err(NoKind),
+        }
+    }
+}
+
+// Word i of a sheet, its high byte first.
 pub fn word_at(sheet: &[u8], i: usize) -> u32
     requires { 4 * i + 4 ≤ length sheet.now }
     ensures { result ≡ word_at sheet.now i }
 {
     let at = 4 * i;
-    word_of(sheet[at], sheet[at + 1], sheet[at + 2], sheet[at + 3])
+    u32::from_be_bytes([sheet[at], sheet[at + 1], sheet[at + 2], sheet[at + 3]])
 }
 
 // Writes a word's four bytes, the high byte first.
@@ -30,17 +53,21 @@ pub fn put_word(sheet: &mut [u8], i: usize, w: u32)
     ensures { sheet.new ≡ put_word sheet.old i w }
 {
     let at = 4 * i;
-    sheet[at] = (w / 0x100_0000) as u8;
-    sheet[at + 1] = (w / 0x1_0000 % 256) as u8;
-    sheet[at + 2] = (w / 256 % 256) as u8;
-    sheet[at + 3] = (w % 256) as u8;
+    sheet[at..at + 4].copy_from_slice(&w.to_be_bytes());
 }
 
-// The kind of a word: its top four bits.
-pub fn kind_of(w: u32) -> u32
-    ensures { result ≡ kind w }
+// The kind of a word, by its top four bits.
+pub fn kind_of(w: u32) -> Option<Kind>
+    ensures { KindSays (kind w) result }
 {
-    w / 0x1000_0000
+    Kind::try_from(w / 0x1000_0000).ok()
+}
+
+// A word of a kind with all its other bits 0.
+fn word_start(kind: Kind) -> u32
+    ensures { result ≡ 0x10000000 * number kind }
+{
+    0x1000_0000 * kind as u32
 }
 
 // The word of a code.
@@ -48,7 +75,7 @@ pub fn code_word(code: Code) -> u32
     requires { Narrow code }
     ensures { result ≡ code_word code }
 {
-    let wired = 0x1000_0000 + code.wiring * 0x800_0000;
+    let wired = word_start(Kind::Code) + code.wiring * 0x800_0000;
     wired + code.field * 0x100_0000 + code.r * 0x1_0000 + code.n * 256 + code.k
 }
 
@@ -57,7 +84,7 @@ pub fn end_word(number: u32) -> u32
     requires { number < 0x10000 }
     ensures { result ≡ end_word number }
 {
-    0x4000_0000 + number
+    word_start(Kind::End) + number
 }
 
 // The word of slot p: a lost one without its symbol. Only a kept slot need be in the word, so the mark is tested first.
@@ -68,8 +95,8 @@ pub fn slot_word(p: u32, word: &[u8], marks: &[u8]) -> u32
     let slot = p as usize;
     let mark = marks[slot];
     match mark {
-        1 => 0x3000_0000 + p * 256,
-        _ => 0x2000_0000 + p * 256 + word[slot] as u32,
+        1 => word_start(Kind::Lost) + p * 256,
+        _ => word_start(Kind::Kept) + p * 256 + word[slot] as u32,
     }
 }
 
@@ -91,10 +118,13 @@ pub fn slot_fits(p: u32, w: u32) -> bool
     requires { p < 256 }
     ensures { result ≡ slot_fits p w }
 {
-    match kind_of(w) {
-        2 => w % 0x1000_0000 / 256 == p,
-        3 => w % 0x1000_0000 == p * 256,
-        0..=1 | 4.. => false,
+    let Some(kind) = kind_of(w) else {
+        return false;
+    };
+    match kind {
+        Kind::Kept => w % 0x1000_0000 / 256 == p,
+        Kind::Lost => w % 0x1000_0000 == p * 256,
+        Kind::Code | Kind::End => false,
     }
 }
 
@@ -102,9 +132,10 @@ pub fn slot_fits(p: u32, w: u32) -> bool
 pub fn word_symbol(w: u32) -> u8
     ensures { result ≡ word_symbol w }
 {
-    match kind_of(w) {
-        3 => 0,
-        0..=2 | 4.. => (w % 256) as u8,
+    if kind_of(w) == Some(Kind::Lost) {
+        0
+    } else {
+        (w % 256) as u8
     }
 }
 
@@ -112,8 +143,5 @@ pub fn word_symbol(w: u32) -> u8
 pub fn word_mark(w: u32) -> u8
     ensures { result ≡ word_mark w }
 {
-    match kind_of(w) {
-        3 => 1,
-        0..=2 | 4.. => 0,
-    }
+    u8::from(kind_of(w) == Some(Kind::Lost))
 }

@@ -1,5 +1,4 @@
 use mathlib.Core.Path.{refl, sym, ap, ◌∙◌}
-use Prim.Native.Nat.{◌-◌}
 use native.Mathlib.Omega.{arith}
 use lib.ListN.{length}
 use Rattle.algebra.specs.Sequence.{at}
@@ -12,52 +11,45 @@ use Rattle.preview_lines.proofs.put_slots.Goals.{then-kept, else-kept}
 pub loop-slot-init : goal.loop-slot-init
 loop-slot-init c =
     let a = c.args in
-    let m = c.requires.0 in
-    (omega arith, n_most a.shape m.shape.plain.family.placed, refl, refl, refl, refl, put_none a.shape a.marks.now a.text.now a.safe.now)
+    (n_most a.shape c.requires.0.shape.plain.family.placed, refl, refl, put_none a.shape a.marks.now a.page.now a.safe.now)
 
 pub bounds-marks-slot : goal.bounds-marks-slot
-bounds-marks-slot c = omega (arith, ap length c.loop-slot.invariant.2, c.requires.0.marks_size)
+bounds-marks-slot c = omega (arith, ap length c.loop-slot.invariant.1, c.requires.0.marks_size)
 
 pub preview_in-seen-requires : goal.preview_in-seen-requires
 preview_in-seen-requires c =
     let m = c.requires.0 in
     let v = c.loop-slot.invariant in
-    (record { shape = m.shape; marks_size = ap length v.2 ∙ m.marks_size; work_size = omega arith }, omega arith)
+    (record { shape = m.shape; marks_size = ap length v.1 ∙ m.marks_size; work_size = omega arith }, omega arith)
 
-pub put_slot-lines-requires : goal.put_slot-lines-requires
-put_slot-lines-requires c =
+pub put_slot-requires : goal.put_slot-requires
+put_slot-requires c =
     let l = c.loop-slot in
     let v = l.invariant in
     let p = c.preview_in-seen in
     let x = small_preview c.args.shape l.marks l.slot p.result c.requires.0.shape.plain.family.placed p.ensures.0 in
-    (omega (arith, v.1, v.4, v.6.lines_most, c.loop-slot-test.true, c.requires.1), omega (arith, v.1, c.loop-slot-test.true), omega arith, omega arith)
+    (omega (arith, v.0, v.3.lines_most, v.3.lines.same_size, c.loop-slot-test.true, c.requires.1), omega (arith, v.0, c.loop-slot-test.true), omega arith, omega arith)
 
 pub loop-slot-preserved : goal.loop-slot-preserved
 loop-slot-preserved c =
     let l = c.loop-slot in
     let v = l.invariant in
-    let m = ap (λ xs. at xs l.slot) v.2 in
+    let m = ap (λ xs. at xs l.slot) v.1 in
     elim c.if-kept.branch [
       | then-kept w ↦ (
-        omega arith,
-        v.1,
-        w.marks-is ∙ w.preview_in-seen.ensures.1 ∙ v.2,
-        ap length w.work-is ∙ w.preview_in-seen.auto.work ∙ v.3,
-        ap length w.text-is ∙ w.put_slot-lines.auto.text ∙ v.4,
-        ap length w.safe-is ∙ w.put_safe-last.auto.text ∙ v.5,
-        put_as w.text-is w.safe-is w.lines-is w.last-is
-            (put_kept v.6 c.requires.0.shape.plain.family w.preview_in-seen.result (λ e. w.if-kept.true (m ∙ e)) (w.preview_in-seen.ensures.0 ∙ ap (preview_of c.args.shape l.slot) v.2) w.put_slot-lines.ensures w.put_safe-last.ensures),
+        v.0,
+        w.marks-is ∙ w.preview_in-seen.ensures.1 ∙ v.1,
+        ap length w.work-is ∙ w.preview_in-seen.auto.work ∙ v.2,
+        put_as w.page-is w.safe-is
+            (put_kept v.3 (omega arith) (omega arith) c.requires.0.shape.plain.family w.preview_in-seen.result (λ e. w.if-kept.true (m ∙ e)) (w.preview_in-seen.ensures.0 ∙ ap (preview_of c.args.shape l.slot) v.1) w.put_slot.ensures w.put_safe.ensures),
       )
       | else-kept w ↦ (
-        omega arith,
-        v.1,
-        w.marks-is ∙ v.2,
-        ap length w.work-is ∙ v.3,
-        ap length w.text-is ∙ v.4,
-        ap length w.safe-is ∙ v.5,
-        put_as w.text-is w.safe-is w.lines-is w.last-is (put_lost v.6 (sym m ∙ w.if-kept.false)),
+        v.0,
+        w.marks-is ∙ v.1,
+        ap length w.work-is ∙ v.2,
+        put_as w.page-is w.safe-is (put_lost v.3 (omega arith) (omega arith) (sym m ∙ w.if-kept.false)),
       )
     ]
 
 pub returns : goal.returns
-returns c = put_all c.loop-slot.invariant.6 (omega arith)
+returns c = put_all c.loop-slot.invariant.3 (omega arith) (omega arith) (omega arith)

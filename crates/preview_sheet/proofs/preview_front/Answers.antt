@@ -1,10 +1,11 @@
-use mathlib.Core.Path.{sym}
-use native.Mathlib.Omega.{arith}
-use lib.Seq.{take_all, length-take-le}
+use mathlib.Core.Path.{◌≡◌, ap, ◌∙◌}
+use lib.ListN.{take}
+use Rattle.std.proofs.Math.Nat.{min_comm}
+use Rattle.std.proofs.lemmas.List.{take_min}
 use Rattle.preview_sheet.proofs.preview_front.Goals as goal
 
-pub returns-then-input-le1032 : goal.returns-then-input-le1032
-returns-then-input-le1032 c = rw (take_all 1032 c.args.input.now c.if-input-le1032.true) c.preview_sheet.ensures
-
-pub slice_bounds-preview_sheet-end : goal.slice_bounds-preview_sheet-end
-slice_bounds-preview_sheet-end c = sym (length-take-le _ c.args.input.now (omega arith))
+pub returns : goal.returns
+returns c =
+    let s = c.args.input.now in
+    let e : take c.min.result s ≡ take 1032 s = ap (λ n. take n s) (c.min.ensures ∙ min_comm _ _) ∙ take_min 1032 s in
+    rw e at c.preview_sheet.ensures

@@ -1,6 +1,4 @@
 use mathlib.Core.Path.{sym, ap, ◌∙◌}
-use mathlib.Core.Bool.{true}
-use Prim.Native.Nat.{◌-◌}
 use native.Mathlib.Omega.{arith}
 use Rattle.words.specs.Word.{slot_fits}
 use Rattle.sheet.specs.Sheet.{middle_word}
@@ -8,7 +6,7 @@ use Rattle.algebra.proofs.Every.{every_not, every_none, every_more, every_done}
 use Rattle.sheet.proofs.slots_fit.Goals as goal
 
 pub loop-p-init : goal.loop-p-init
-loop-p-init c = (omega arith, every_none (λ p. slot_fits p (middle_word c.args.sheet.now p)))
+loop-p-init c = every_none (λ p. slot_fits p (middle_word c.args.sheet.now p))
 
 pub returns-then-not-slot_fits : goal.returns-then-not-slot_fits
 unfolding middle_word
@@ -26,13 +24,10 @@ unfolding middle_word
 loop-p-preserved c =
     let l = c.loop-p in
     let s = c.args.sheet.now in
-    let w = c.word_at-w.ensures in (
-      omega arith,
-      every_more (λ p. slot_fits p (middle_word s p)) l.p l.invariant.1
-          (sym (ap (slot_fits l.p) w) ∙ sym c.slot_fits.ensures ∙ c.if-not-slot_fits.false),
-    )
+    let w = c.word_at-w.ensures in
+    every_more (λ p. slot_fits p (middle_word s p)) l.p l.invariant (sym (ap (slot_fits l.p) w) ∙ sym c.slot_fits.ensures ∙ c.if-not-slot_fits.false)
 
 pub returns : goal.returns
 returns c =
     let l = c.loop-p in
-    every_done (λ p. slot_fits p (middle_word c.args.sheet.now p)) c.args.n l.p (omega arith) (omega arith) l.invariant.1
+    every_done (λ p. slot_fits p (middle_word c.args.sheet.now p)) c.args.n l.p (omega arith) (omega arith) l.invariant

@@ -1,5 +1,4 @@
 use mathlib.Core.Path.{◌≡◌, refl, ap, ◌∙◌}
-use Prim.Native.Nat.{◌-◌}
 use native.Mathlib.Omega.{arith}
 use lib.ListN.{length}
 use Rattle.sheet.specs.Step.{put_slots}
@@ -9,7 +8,7 @@ use Rattle.sheet.proofs.write_slots.Goals as goal
 pub loop-p-init : goal.loop-p-init
 loop-p-init c =
     let a = c.args in
-    (omega arith, refl, slots_none a.sheet.now a.word.now a.marks.now)
+    (refl, slots_none a.sheet.now a.word.now a.marks.now)
 
 pub slot_word-w-requires : goal.slot_word-w-requires
 slot_word-w-requires c = (omega arith, omega arith, λ _. omega arith)
@@ -20,17 +19,16 @@ loop-p-preserved c =
     let a = c.args in
     let t = c.put_word in
     let w = c.slot_word-w in (
-      omega arith,
-      t.auto.sheet ∙ l.invariant.1,
-      t.ensures ∙ slots_more a.sheet.now a.word.now a.marks.now l.sheet l.p w.result (omega arith) l.invariant.2 w.ensures,
+      t.auto.sheet ∙ l.invariant.0,
+      t.ensures ∙ slots_more a.sheet.now a.word.now a.marks.now l.sheet l.p w.result (omega arith) l.invariant.1 w.ensures,
     )
 
 pub shape_of-sheet : goal.shape_of-sheet
-shape_of-sheet c = c.loop-p.invariant.1
+shape_of-sheet c = c.loop-p.invariant.0
 
 pub returns : goal.returns
 returns c =
     let l = c.loop-p in
     let a = c.args in
     let e : l.p ≡ length a.word.now = omega arith in
-    l.invariant.2 ∙ ap (put_slots a.sheet.now a.word.now a.marks.now) e
+    l.invariant.1 ∙ ap (put_slots a.sheet.now a.word.now a.marks.now) e

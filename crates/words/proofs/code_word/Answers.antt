@@ -1,7 +1,7 @@
 use Rattle.words.specs.Word.{code_word}
-use mathlib.Core.Path.{refl}
+use native.Mathlib.Omega.{arith}
 use Rattle.words.proofs.code_word.Goals as goal
 
 pub returns : goal.returns
 unfolding code_word
-returns c = refl
+returns c = omega arith

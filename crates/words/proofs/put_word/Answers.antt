@@ -1,16 +1,12 @@
+use mathlib.Core.Path.{◌∙◌, ap}
+use Prim.Native.Nat.{◌+◌, ◌-◌, ◌*◌}
 use native.Mathlib.Omega.{arith}
-use lib.ListN.{length-set}
-use Rattle.words.proofs.Bytes.{put_sets}
+use borrow.Rule.Slice.PartMut.{put_mid}
+use Rattle.words.proofs.Bytes.{put_part}
 use Rattle.words.proofs.put_word.Goals as goal
 
-pub bounds-sheet-at-2 : goal.bounds-sheet-at-2
-bounds-sheet-at-2 c = simp length-set (omega arith)
-
-pub bounds-sheet-at-3 : goal.bounds-sheet-at-3
-bounds-sheet-at-3 c = simp length-set (omega arith)
-
-pub bounds-sheet-at-4 : goal.bounds-sheet-at-4
-bounds-sheet-at-4 c = simp length-set (omega arith)
-
 pub returns : goal.returns
-returns c = put_sets c.args.sheet.now c.args.i c.args.w c.requires
+returns c =
+    let a = c.args in
+    let i = a.i in
+    ap (put_mid (4 * i) (4 * i + 4 - 4 * i) a.sheet.now) (c.copy_from_slice.ensures.after ∙ c.to_be_bytes.ensures) ∙ put_part a.sheet.now i a.w (omega arith)

@@ -16,8 +16,8 @@ overflow_add-result-in_default-2 c = omega (arith, c.requires.0, c.shared_slice_
 
 pub returns-in-1 : goal.returns-in-1
 unfolding slot_word lost lost_word
-returns-in-1 c = simp (eq-eqb _ _ c.in-1.is)
+returns-in-1 c = rw (eq-eqb _ _ c.in-1.is) (omega arith)
 
 pub returns-in_default : goal.returns-in_default
 unfolding slot_word lost kept_word
-returns-in_default c = simp (ne_eqb _ _ c.in_default.in_default-own.rest.1)
+returns-in_default c = rw (ne_eqb _ _ c.in_default.in_default-own.rest.1) (omega arith)

@@ -1,6 +1,7 @@
+use native.Mathlib.Omega.{arith}
 use Rattle.words.specs.Word.{word_at}
 use Rattle.words.proofs.word_at.Goals as goal
 
 pub returns : goal.returns
 unfolding word_at
-returns c = c.word_of.ensures
+returns c = omega arith

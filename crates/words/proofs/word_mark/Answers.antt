@@ -1,12 +1,14 @@
-use mathlib.Core.Path.{sym, ◌∙◌}
-use borrow.Author.Tests.{eq-eqb, ne_eqb}
-use Rattle.words.specs.Word.{word_mark}
+use mathlib.Core.Path.{◌≡◌, refl, sym, ◌∙◌}
+use mathlib.Core.Bool.{Bool, true, false, cond}
+use mir.Val.{bool_byte}
+use Rattle.words.specs.Word.{kind, word_mark}
+use Rattle.words.proofs.Words.{lost_test}
 use Rattle.words.proofs.word_mark.Goals as goal
 
-pub returns-in-3 : goal.returns-in-3
-unfolding word_mark
-returns-in-3 c = simp (eq-eqb _ _ (sym c.kind_of.ensures ∙ c.in-3.is))
+byte : (b : Bool) → bool_byte b ≡ cond b 1 0
+byte true = refl
+byte false = refl
 
-pub returns-in-0-to-2 : goal.returns-in-0-to-2
+pub returns : goal.returns
 unfolding word_mark
-returns-in-0-to-2 c = simp (ne_eqb _ _ (λ e. c.in-0-to-2.in-0-to-2-own.rest.1 (c.kind_of.ensures ∙ e)))
+returns c = rw (sym (lost_test (kind c.args.w) c.kind_of.result c.kind_of.ensures) ∙ sym c.eq.ensures) (c.from.ensures ∙ byte c.eq.result)

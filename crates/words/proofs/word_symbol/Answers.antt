@@ -1,12 +1,12 @@
 use mathlib.Core.Path.{sym, ◌∙◌}
-use borrow.Author.Tests.{eq-eqb, ne_eqb}
-use Rattle.words.specs.Word.{word_symbol}
+use Rattle.words.specs.Word.{kind, word_symbol}
+use Rattle.words.proofs.Words.{lost_test}
 use Rattle.words.proofs.word_symbol.Goals as goal
 
-pub returns-in-3 : goal.returns-in-3
+pub returns-then-eq : goal.returns-then-eq
 unfolding word_symbol
-returns-in-3 c = simp (eq-eqb _ _ (sym c.kind_of.ensures ∙ c.in-3.is))
+returns-then-eq c = rw (sym (lost_test (kind c.args.w) c.kind_of.result c.kind_of.ensures) ∙ sym c.eq.ensures ∙ c.if-eq.true)
 
-pub returns-in-0-to-2 : goal.returns-in-0-to-2
+pub returns-else-eq : goal.returns-else-eq
 unfolding word_symbol
-returns-in-0-to-2 c = simp (ne_eqb _ _ (λ e. c.in-0-to-2.in-0-to-2-own.rest.1 (c.kind_of.ensures ∙ e)))
+returns-else-eq c = rw (sym (lost_test (kind c.args.w) c.kind_of.result c.kind_of.ensures) ∙ sym c.eq.ensures ∙ c.if-eq.false)
