@@ -1,5 +1,5 @@
 use mathlib.Core.Path.{◌≡◌, ap, ap₂, ◌∙◌}
-use Prim.Native.Nat.{ℕ, ◌+◌, ◌*◌, ◌-◌, ◌≤◌, ◌<◌}
+use Prim.Native.Nat.{ℕ, ◌+◌, ◌*◌, ◌≤◌, ◌<◌}
 use native.Mathlib.Omega.{arith}
 use lib.ListN.{length, replicate}
 use Rattle.algebra.specs.Sequence.{at}
@@ -37,10 +37,7 @@ width_of-width-requires c = c.requires.0.placed
 
 pub loop-i-init : goal.loop-i-init
 loop-i-init c =
-    let f = c.args.shape.field in (
-      omega (arith, c.members_of-members.ensures.1),
-      filled_none (entry f c.size_of-size.result c.member_of-member.result c.width_of-width.result) (replicate 16 0),
-    )
+    filled_none (entry c.args.shape.field c.size_of-size.result c.member_of-member.result c.width_of-width.result) (replicate 16 0)
 
 -- one weight fewer than the group has members, at most sixteen
 few : (c : At-loop-i) → (c.members_of-members.result ≤ c.size_of-size.result) × (c.size_of-size.result ≤ 17)
@@ -48,9 +45,6 @@ few c =
     let z = c.size_of-size.ensures in
     let P = c.requires.0.placed in
     (omega (arith, c.members_of-members.ensures.2, z), omega (arith, z, P.size_most))
-
-pub overflow_add-i : goal.overflow_add-i
-overflow_add-i c = let n = few (goal.at.overflow_add-i c).At-loop-i in omega (arith, n.0, n.1)
 
 pub mate_steps-steps-requires : goal.mate_steps-steps-requires
 mate_steps-steps-requires c =
@@ -72,10 +66,7 @@ member_point-y-requires c =
 pub bounds-weights-i : goal.bounds-weights-i
 bounds-weights-i c =
     let n = few (goal.at.bounds-weights-i c).At-loop-i in
-    omega (arith, n.0, n.1, c.loop-i.invariant.1.size)
-
-pub overflow_add-i-in-loop-i : goal.overflow_add-i-in-loop-i
-overflow_add-i-in-loop-i c = let n = few (goal.at.overflow_add-i-in-loop-i c).At-loop-i in omega (arith, n.0, n.1)
+    omega (arith, n.0, n.1, c.loop-i.invariant.size)
 
 pub loop-i-preserved : goal.loop-i-preserved
 loop-i-preserved c =
@@ -85,10 +76,8 @@ loop-i-preserved c =
     let o = c.member_of-member.result in
     let w = c.width_of-width.result in
     let n = few (goal.at.loop-i-preserved c).At-loop-i in
-    let y = c.member_point-y.ensures ∙ ap (λ n. power f γ (0 + n * w)) c.mate_steps-steps.ensures in (
-      omega arith,
-      filled_more (entry f t o w) l.i c.sub.result (replicate 16 0) l.weights (omega (arith, n.0, n.1, l.invariant.1.size)) (c.sub.ensures ∙ ap (minus f 0) y) l.invariant.1,
-    )
+    let y = c.member_point-y.ensures ∙ ap (λ n. power f γ (0 + n * w)) c.mate_steps-steps.ensures in
+    filled_more (entry f t o w) l.i c.sub.result (replicate 16 0) l.weights (omega (arith, n.0, n.1, l.invariant.size)) (c.sub.ensures ∙ ap (minus f 0) y) l.invariant
 
 -- what was worked out are the weights
 pub returns : goal.returns
@@ -106,5 +95,5 @@ returns c =
     let e : l.i ≡ length (mates h p)
     = omega (arith, c.members_of-members.ensures.0, ap (members h) c.group_of-group.ensures.0, length_mates h M.placed p c.requires.1) in
     let F : Filled (at (weights h p)) l.i (replicate 16 0) l.weights
-    = record { size = l.invariant.1.size; below = λ k b. l.invariant.1.below k b ∙ is k (omega arith); above = l.invariant.1.above } in
+    = record { size = l.invariant.size; below = λ k b. l.invariant.below k b ∙ is k (omega arith); above = l.invariant.above } in
     sixteen_of (weights h p) l.i l.weights (omega (arith, length_weights h M p c.requires.1)) F
