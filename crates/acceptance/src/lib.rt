@@ -3,11 +3,11 @@
 
 ghost use Rattle.std.specs.Prelude.{◌≡◌, ◌≢◌, ◌+◌, ◌-◌, ◌%◌, ◌≤◌, eqb};
 ghost use Rattle.field.specs.Field.{q};
-ghost use Rattle.code.specs.Question.{ask};
-ghost use Rattle.code.specs.Family.{single, n_fits, k_fits, wiring_fits, code_refusal};
-ghost use Rattle.code.specs.Shape.{groups};
+ghost use Rattle.code.specs.Family.{single, r_fits, n_fits, k_fits, wiring_fits, code_refusal};
+ghost use Rattle.refusal.specs.Refusal.{number_of};
 
 use code::{Code, Shape};
+use refusal::{Refusal, require};
 
 // The shape of a code of the paper: groups of r + 1 that stand one loss.
 pub fn single(code: Code) -> Shape
@@ -32,88 +32,60 @@ pub fn is_whole(code: Code) -> bool
     code.n as u64 % size == 0
 }
 
-// The refusal of questions 1 to 4 and 17, or 0.
-pub fn code_refusal(code: Code) -> u32
-    ensures { result ≡ code_refusal code }
+// Questions 1 to 4 and 17, in order.
+#[tactic(auto, using(refusal::proofs::Refusals::chain), unfolding(code::specs::Question::ask, code::specs::Family::field_known, code::specs::Family::code_refusal))]
+pub fn accepted(code: Code) -> Result<(), Refusal>
+    ensures { number_of result ≡ code_refusal code }
 {
-    let field = code.field;
+    require(code.field <= 1, Refusal::Field)?;
+    let most = tables::order(code.field) - 1;
+    require(locality_fits(code, most), Refusal::Locality)?;
+    require(length_fits(code, most), Refusal::Length)?;
+    require(dimension_fits(code), Refusal::Dimension)?;
+    require(wiring_fits(code), Refusal::Wiring)
+}
+
+// Question 2; most is q - 1.
+#[tactic(auto, unfolding(code::specs::Family::r_fits, code::specs::Shape::size))]
+fn locality_fits(code: Code, most: u32) -> bool
+    requires { most ≡ q code.field - 1 }
+    ensures { result ≡ r_fits (single code) }
+{
     let r = code.r;
-    if field > 1 {
-        return 1;
-    }
-    if r < 1 {
-        return 2;
-    }
-    if r > 16 {
-        return 2;
-    }
-    let most = tables::order(field) - 1;
-    if most % (r + 1) != 0 {
-        return 2;
-    }
-    length_refusal(code, most)
+    (1..=16).contains(&r) && most % (r + 1) == 0
 }
 
-// The refusal of question 17, or 0, by n mod (r + 1).
-fn wiring_refusal(code: Code, last: u32) -> u32
-    requires { last ≡ code.n % (code.r + 1) }
-    ensures { result ≡ ask (wiring_fits (single code)) 17 0 }
+// Question 3; most is q - 1.
+fn length_fits(code: Code, most: u32) -> bool
+    requires { (1 ≤ code.r) × (code.r ≤ 16) × (most ≡ q code.field - 1) × (most ≤ 255) }
+    ensures { result ≡ n_fits (single code) }
 {
-    let wiring = code.wiring;
-    let unknown = wiring > 1;
-    if unknown {
-        return 17;
-    }
-    if wiring == 0 {
-        return 0;
-    }
-    if last != 0 {
-        return 17;
-    }
-    0
+    let n = code.n;
+    let size = code.r + 1;
+    let shared = n % size != 1;
+    n >= 1 && n <= most && shared && (n + code.r) / size * size <= most
 }
 
-// The refusal of questions 4 and 17, or 0, by the number of groups and n mod (r + 1).
-fn dimension_refusal(code: Code, number: u32, last: u32) -> u32
-    requires { (1 ≤ code.r) × (code.r ≤ 16) × (1 ≤ code.n) × (code.n ≤ 255) × (number ≡ groups (single code)) × (last ≡ code.n % (code.r + 1)) × (last ≢ 1) }
-    ensures { result ≡ ask (k_fits (single code)) 4 (ask (wiring_fits (single code)) 17 0) }
+// Question 4.
+fn dimension_fits(code: Code) -> bool
+    requires { (1 ≤ code.r) × (code.r ≤ 16) × (1 ≤ code.n) × (code.n ≤ 255) × (code.n % (code.r + 1) ≢ 1) }
+    ensures { result ≡ k_fits (single code) }
 {
     let n = code.n;
     let k = code.k;
-    if k < 1 {
-        return 4;
-    }
-    if k > n - number {
-        return 4;
-    }
-    if k + 1 < last {
-        return 4;
-    }
-    wiring_refusal(code, last)
+    let size = code.r + 1;
+    let last = n % size;
+    let number = (n + code.r) / size;
+    let room = k <= n - number;
+    k >= 1 && room && last <= k + 1
 }
 
-// The refusal of questions 3, 4 and 17, or 0; most is q - 1.
-fn length_refusal(code: Code, most: u32) -> u32
-    requires { (1 ≤ code.r) × (code.r ≤ 16) × (most ≡ q code.field - 1) × (most ≤ 255) }
-    ensures { result ≡ ask (n_fits (single code)) 3 (ask (k_fits (single code)) 4 (ask (wiring_fits (single code)) 17 0)) }
+// Question 17.
+#[tactic(auto, unfolding(code::specs::Family::wiring_fits, code::specs::Shape::size))]
+fn wiring_fits(code: Code) -> bool
+    requires { code.r ≤ 16 }
+    ensures { result ≡ wiring_fits (single code) }
 {
-    let r = code.r;
-    let n = code.n;
-    let size = r + 1;
-    if n < 1 {
-        return 3;
-    }
-    if n > most {
-        return 3;
-    }
-    let last = n % size;
-    let groups = (n + r) / size;
-    let alone = last == 1;
-    if alone {
-        return 3;
-    }
-    if groups * size > most {
-        return 3;
-    }
-    dimension_refusal(code, groups, last)
+    let known = code.wiring <= 1;
+    known && (code.wiring == 0 || code.n % (code.r + 1) == 0)
 }

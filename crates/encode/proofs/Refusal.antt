@@ -1,10 +1,9 @@
 -- The questions of encode. Assumes nothing.
---   asked_in_turn      they are asked one after another
 --   Passed n s ms l    no refusal n before, the buffers have their lengths, and the symbols are below q
 --   encode_passed      an encode that is not refused has these
 --   encode_passes      a message and a buffer of n are not refused
 --   encode_fills       and the codeword is written
-use mathlib.Core.Path.{◌≡◌, refl, sym, ap, ◌∙◌}
+use mathlib.Core.Path.{◌≡◌, refl, sym}
 use mathlib.Core.Bool.{true, ◌&&◌}
 use mathlib.Core.List.{List}
 use Prim.Native.Nat.{ℕ}
@@ -14,23 +13,13 @@ use lib.ListN.{length}
 use Rattle.algebra.specs.Sequence.{all_below}
 use Rattle.algebra.proofs.Booleans.{yes_true, and_left, and_right}
 use Rattle.field.specs.Field.{q}
-use Rattle.code.specs.Question.{ask, or_ask}
+use Rattle.code.specs.Question.{ask}
 use Rattle.code.specs.Codeword.{is_message, encoded}
 use Rattle.code.specs.declared.Shape.{Shape}
 use Rattle.code.proofs.Answers.{fills_in}
 use Rattle.code.proofs.Codewords.{message_is}
-use Rattle.code.proofs.Questions.{ask_then, ask_and, ask_yes, asked, or_ask_on, or_ask_passed}
+use Rattle.code.proofs.Questions.{ask_yes, asked, or_ask_on, or_ask_passed}
 use Rattle.encode.specs.Encode.{encode_refusal, EncodeSays}
-
--- x is what the two questions numbered 5 leave
-pub asked_in_turn : (n : ℕ) (s : Shape) (ms : List ℕ) (l x : ℕ) → x ≡ or_ask (or_ask n (ask (eqb (length ms) s.k) 5 0)) (ask (eqb l s.n) 5 0)
-    → or_ask x (ask (all_below (q s.field) ms) 6 0) ≡ encode_refusal n s ms l
-unfolding encode_refusal
-asked_in_turn n s ms l x e =
-    let a = eqb (length ms) s.k in
-    let b = eqb l s.n in
-    let six : ℕ = ask (all_below (q s.field) ms) 6 0 in
-    ap (λ y. or_ask y six) e ∙ ask_then (or_ask n (ask a 5 0)) b 4 six ∙ ask_then n a 4 (ask b 5 six) ∙ ap (or_ask n) (ask_and a b 5 six)
 
 pub record Passed (n : ℕ) (s : Shape) (ms : List ℕ) (l : ℕ) : Type 0 where
   pub accepted : n ≡ 0

@@ -7,23 +7,30 @@ ghost use Rattle.code.specs.Family.{single, code_refusal};
 ghost use Rattle.code.specs.Shape.{missing, whole};
 ghost use Rattle.code.specs.Codeword.{is_message, encoded};
 ghost use Rattle.code.specs.Laws.{Plain};
+ghost use Rattle.refusal.specs.Refusal.{number_of};
 ghost use Rattle.encode.specs.Encode.{encode_refusal, EncodeSays};
 
 use code::{Code, Shape};
+use refusal::{Refusal, require};
 
-// Questions 5 and 6 after the refusal of those before; length is that of the codeword's buffer.
-fn encode_refusal(refusal: u32, shape: Shape, message: &[u8], length: usize) -> u32
-    ensures { result ≡ encode_refusal refusal shape message.now length }
+// Questions 5 and 6 after those before; length is that of the codeword's buffer.
+#[tactic(auto, using(refusal::proofs::Refusals::chain), unfolding(code::specs::Question::ask, code::specs::Question::or_ask, crate::specs::Encode::encode_refusal))]
+fn encode_asked(
+    asked: Result<(), Refusal>,
+    shape: Shape,
+    message: &[u8],
+    length: usize,
+) -> Result<(), Refusal>
+    ensures { number_of result ≡ encode_refusal (number_of asked) shape message.now length }
 {
-    let a = questions::ask(refusal, message.len() == shape.k as usize, 5);
-    let b = questions::ask(a, length == shape.n as usize, 5);
-    if b != 0 {
-        return b;
-    }
-    questions::ask(
-        b,
+    asked?;
+    require(
+        message.len() == shape.k as usize && length == shape.n as usize,
+        Refusal::Buffers,
+    )?;
+    require(
         questions::all_below(message, tables::order(shape.field)),
-        6,
+        Refusal::Symbol,
     )
 }
 
@@ -67,28 +74,30 @@ pub fn write_message(
     }
 }
 
-// Encodes for any plain family, whole groups or a short last one, after the refusal of the questions on its numbers.
-pub fn encode_with(refusal: u32, shape: Shape, message: &[u8], codeword: &mut [u8]) -> u32
-    requires { refusal ≡ 0 → Plain shape }
-    ensures { EncodeSays refusal shape message.now result codeword.old codeword.new }
+// Encodes for any plain family, whole groups or a short last one, after the questions on its numbers.
+#[tactic(auto, using(refusal::proofs::Refusals::chain, crate::proofs::Refusal::encode_passed, code::proofs::Codewords::is_message_of), unfolding(crate::specs::Encode::EncodeSays))]
+pub fn encode_with(
+    asked: Result<(), Refusal>,
+    shape: Shape,
+    message: &[u8],
+    codeword: &mut [u8],
+) -> Result<(), Refusal>
+    requires { number_of asked ≡ 0 → Plain shape }
+    ensures { EncodeSays (number_of asked) shape message.now (number_of result) codeword.old codeword.new }
 {
-    let refused = encode_refusal(refusal, shape, message, codeword.len());
-    let stops = refused != 0;
-    if stops {
-        return refused;
-    }
+    encode_asked(asked, shape, message, codeword.len())?;
     let powers = tables::power_table();
     let logs = tables::log_table();
     write_message(shape, message, codeword, &powers, &logs);
-    0
+    Ok(())
 }
 
 // Encodes k message symbols into n codeword symbols.
-pub fn encode(code: Code, message: &[u8], codeword: &mut [u8]) -> u32
-    ensures { EncodeSays (code_refusal code) (single code) message.now result codeword.old codeword.new }
+pub fn encode(code: Code, message: &[u8], codeword: &mut [u8]) -> Result<(), Refusal>
+    ensures { EncodeSays (code_refusal code) (single code) message.now (number_of result) codeword.old codeword.new }
 {
     encode_with(
-        acceptance::code_refusal(code),
+        acceptance::accepted(code),
         acceptance::single(code),
         message,
         codeword,

@@ -1,4 +1,3 @@
 pub mod Refusals
-pub mod Asking
 pub mod Strips
 pub mod Promises

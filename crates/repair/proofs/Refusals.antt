@@ -1,10 +1,9 @@
 -- Which questions a call has passed whose refusal is 0, and that it is 0 where they are passed. Assumes nothing.
 --   last_yes, last_no, was_yes, was_no           what the last question says, and what was asked
 --   strips_passed, strips_accepted               the questions before 9
---   mates_stop, mates_on                         a refusal before 9, and none
+--   mates_on                                     no refusal before 9
 --   mates_passed, mates_asked, mates_accepted    all of them
 use mathlib.Core.Path.{◌≡◌, refl, sym, ap, ◌∙◌}
-use mathlib.Core.Logic.{◌≢◌}
 use mathlib.Core.Bool.{Bool, true, false, ◌&&◌}
 use mathlib.Core.List.{List}
 use Prim.Native.Nat.{ℕ, ◌*◌, ◌≤◌}
@@ -18,8 +17,8 @@ use Rattle.field.specs.Field.{q}
 use Rattle.code.specs.declared.Shape.{Shape}
 use Rattle.code.specs.Shape.{mates_number}
 use Rattle.code.specs.Held.{columns_held}
-use Rattle.code.specs.Question.{ask, or_ask}
-use Rattle.code.proofs.Questions.{ask_yes, ask_no, or_ask_stop, or_ask_on, asked, or_ask_passed}
+use Rattle.code.specs.Question.{ask}
+use Rattle.code.proofs.Questions.{ask_yes, ask_no, or_ask_on, asked, or_ask_passed}
 use Rattle.code.proofs.Mates.{mates_number_is}
 use Rattle.repair.specs.Mates.{strips_fit, strips_refusal, mates_refusal}
 use Rattle.repair.specs.Promise.{Strips}
@@ -71,10 +70,6 @@ module _ (n : ℕ) (s : Shape) (p l : ℕ) (xs : List ℕ) where
   strips_accepted e Q =
       let k = Q.long ∙ ap (λ k. k * l) (sym (mates_number_is s p Q.slot)) in
       sym (or_ask_on n _ 0 e (ask_yes 5 (fits Q.least Q.most k) (ask_yes 7 (lt-ltb p s.n Q.slot) (ask_yes 6 Q.below refl))))
-
-  pub mates_stop : (a : ℕ) → a ≡ strips_refusal n s p l xs → a ≢ 0 → a ≡ mates_refusal n s p l xs
-  unfolding mates_refusal
-  mates_stop a e h = or_ask_stop a (ask (columns_held s p l xs) 9 0) h ∙ ap (λ a. or_ask a (ask (columns_held s p l xs) 9 0)) e
 
   pub mates_on : strips_refusal n s p l xs ≡ 0 → mates_refusal n s p l xs ≡ ask (columns_held s p l xs) 9 0
   unfolding mates_refusal

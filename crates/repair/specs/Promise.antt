@@ -25,7 +25,7 @@ use Rattle.code.specs.Promise.{Message, Interpolates, Told}
 use Rattle.code.specs.declared.Shape.{Shape}
 use Rattle.code.specs.declared.Answer.{Answer}
 use Rattle.weights.specs.Weights.{WeightsSay}
-use Rattle.weights.specs.declared.RepairWeights.{RepairWeights}
+use Rattle.weights.specs.RepairWeights.{RepairWeights}
 use Rattle.repair.specs.Mates.{RepairSays, RebuildSays}
 
 -- one less than the slot's group has members; where there is no such slot, as many as in whole groups

@@ -5,26 +5,35 @@ ghost use Rattle.std.specs.Prelude.{◌≡◌};
 ghost use Rattle.code.specs.Family.{single, code_refusal};
 ghost use Rattle.code.specs.Answer.{Answers};
 ghost use Rattle.code.specs.Laws.{Mending};
+ghost use Rattle.refusal.specs.Refusal.{number_of, answer_of};
 ghost use Rattle.view.specs.View.{view_refusal, first_slot, ViewSays};
 
-use code::{Answer, Code, Shape};
+use code::{Code, Shape};
+use refusal::{Refusal, require};
 
-// The refusal of the group view over any shape.
-pub fn group_view_refusal_with(refusal: u32, shape: Shape, slot: u32, word: &[u8]) -> u32
-    ensures { result ≡ view_refusal refusal shape slot word.now }
+// The questions of the group view over any shape.
+#[tactic(auto, using(refusal::proofs::Refusals::chain), unfolding(code::specs::Question::ask, code::specs::Question::or_ask, code::specs::Shape::wired, crate::specs::View::view_refusal))]
+pub fn group_view_refusal_with(
+    asked: Result<(), Refusal>,
+    shape: Shape,
+    slot: u32,
+    word: &[u8],
+) -> Result<(), Refusal>
+    ensures { number_of result ≡ view_refusal (number_of asked) shape slot word.now }
 {
-    let a = questions::ask(refusal, shape.wiring != 1, 18);
-    let b = questions::ask(a, word.len() == shape.n as usize, 5);
-    questions::ask(b, slot < shape.n, 7)
+    asked?;
+    require(shape.wiring != 1, Refusal::View)?;
+    require(word.len() == shape.n as usize, Refusal::Buffers)?;
+    require(slot < shape.n, Refusal::Slot)
 }
 
-// The group view over any shape whose groups stand one loss.
-pub fn group_view_with(refusal: u32, shape: Shape, slot: u32, word: &[u8]) -> &[u8]
-    requires { refusal ≡ 0 → Mending shape }
-    ensures { ViewSays refusal shape slot word.entry result }
+// The group view over any shape whose groups stand one loss. ViewSays has an empty view on a refusal, so it is no Result.
+pub fn group_view_with(asked: Result<(), Refusal>, shape: Shape, slot: u32, word: &[u8]) -> &[u8]
+    requires { number_of asked ≡ 0 → Mending shape }
+    ensures { ViewSays (number_of asked) shape slot word.entry result }
 {
-    let refused = group_view_refusal_with(refusal, shape, slot, word);
-    if refused != 0 {
+    let refused = group_view_refusal_with(asked, shape, slot, word).is_err();
+    if refused {
         return &word[..0];
     }
     let group = layout::group_of(shape, slot);
@@ -33,12 +42,12 @@ pub fn group_view_with(refusal: u32, shape: Shape, slot: u32, word: &[u8]) -> &[
     &word[start..end]
 }
 
-// The refusal of the group view on the same inputs, or 0.
-pub fn group_view_refusal(code: Code, slot: u32, word: &[u8]) -> u32
-    ensures { result ≡ view_refusal (code_refusal code) (single code) slot word.now }
+// The questions of the group view on the same inputs.
+pub fn group_view_refusal(code: Code, slot: u32, word: &[u8]) -> Result<(), Refusal>
+    ensures { number_of result ≡ view_refusal (code_refusal code) (single code) slot word.now }
 {
     group_view_refusal_with(
-        acceptance::code_refusal(code),
+        acceptance::accepted(code),
         acceptance::single(code),
         slot,
         word,
@@ -50,7 +59,7 @@ pub fn group_view(code: Code, slot: u32, word: &[u8]) -> &[u8]
     ensures { ViewSays (code_refusal code) (single code) slot word.entry result }
 {
     group_view_with(
-        acceptance::code_refusal(code),
+        acceptance::accepted(code),
         acceptance::single(code),
         slot,
         word,
@@ -58,14 +67,12 @@ pub fn group_view(code: Code, slot: u32, word: &[u8]) -> &[u8]
 }
 
 // The first slot of a slot's group in a word.
-pub fn view_first(code: Code, slot: u32, word: &[u8]) -> Answer
-    ensures { Answers (view_refusal (code_refusal code) (single code) slot word.now) (first_slot code slot) result }
+#[tactic(auto, using(refusal::proofs::Refusals::chain), unfolding(crate::specs::View::first_slot))]
+pub fn view_first(code: Code, slot: u32, word: &[u8]) -> Result<u32, Refusal>
+    ensures { Answers (view_refusal (code_refusal code) (single code) slot word.now) (first_slot code slot) (answer_of result) }
 {
-    let refusal = group_view_refusal(code, slot, word);
-    if refusal != 0 {
-        return Answer { refusal, value: 0 };
-    }
+    group_view_refusal(code, slot, word)?;
     let shape = acceptance::single(code);
-    let value = layout::first_of(shape, layout::group_of(shape, slot));
-    Answer { refusal: 0, value }
+    let first = layout::first_of(shape, layout::group_of(shape, slot));
+    Ok(first)
 }

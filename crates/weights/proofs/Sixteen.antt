@@ -1,18 +1,23 @@
 -- Lists of at most sixteen entries in an array of sixteen, with zeros after them. Assumes nothing.
 --   sixteen_of          an array of zeros filled with a list's entries holds the list
+--   sixteen_none        no entries, and sixteen zeros
 --   length_sixteen
 --   take_sixteen        the list back from its array
-use mathlib.Core.Path.{◌≡◌, sym, ◌∙◌}
-use mathlib.Core.List.{List}
+use mathlib.Core.Path.{◌≡◌, refl, sym, ◌∙◌}
+use mathlib.Core.List.{List, []}
 use Prim.Native.Nat.{ℕ, ◌≤◌, ◌<◌}
 use native.Mathlib.Decide.{dec_lt}
 use native.Mathlib.Omega.{arith}
 use lib.ListN.{length, take, replicate, length-replicate, get_or-replicate, get_or-eq_default}
 use lib.Seq.{ext_get_or, length-take-le, get_or-take}
-use Rattle.algebra.specs.Sequence.{at, tabulate}
+use Rattle.algebra.specs.Sequence.{at, tabulate_from, tabulate}
 use Rattle.algebra.proofs.Tabulate.{length_tabulate, at_tabulate, tabulate_is}
 use Rattle.algebra.proofs.Filling.{Filled}
 use Rattle.weights.specs.Weights.{sixteen}
+
+pub sixteen_none : sixteen [] ≡ replicate 16 0
+unfolding sixteen tabulate tabulate_from
+sixteen_none = refl
 
 module _ (ws : List ℕ) where
   pub sixteen_of : (m : ℕ) (xs : List ℕ) → m ≡ length ws → Filled (at ws) m (replicate 16 0) xs → xs ≡ sixteen ws

@@ -30,7 +30,7 @@ use Rattle.code.proofs.Parity.{weights_are}
 use Rattle.layout.specs.Step.{mate_member, mate_steps}
 use Rattle.layout.proofs.Numbers.{worked_point, mate_size, mate_is, steps_round}
 use Rattle.weights.specs.Weights.{sixteen, weights_refusal, WeightsSay}
-use Rattle.weights.specs.declared.RepairWeights.{RepairWeights}
+use Rattle.weights.specs.RepairWeights.{RepairWeights}
 use Rattle.weights.proofs.Sixteen.{take_sixteen}
 
 module _ (s : Shape) (M : Mending s) (p : ℕ) (h : p < s.n) where

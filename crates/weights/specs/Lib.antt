@@ -1,2 +1,3 @@
+pub mod RepairWeights
 pub mod Weights
 pub mod Promise

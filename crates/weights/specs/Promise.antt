@@ -12,7 +12,7 @@ use Rattle.code.specs.Shape.{whole, point, others, mates}
 use Rattle.code.specs.Laws.{Mending}
 use Rattle.code.specs.declared.Shape.{Shape}
 use Rattle.weights.specs.Weights.{WeightsSay}
-use Rattle.weights.specs.declared.RepairWeights.{RepairWeights}
+use Rattle.weights.specs.RepairWeights.{RepairWeights}
 
 unfoldable pub WeightsHold : Type 0
 WeightsHold =

@@ -7,7 +7,7 @@ use Rattle.algebra.specs.Sequence.{at, tabulate}
 use Rattle.code.specs.Question.{ask, or_ask}
 use Rattle.code.specs.Repair.{weights}
 use Rattle.code.specs.declared.Shape.{Shape}
-use Rattle.weights.specs.declared.RepairWeights.{RepairWeights}
+use Rattle.weights.specs.RepairWeights.{RepairWeights}
 
 unfoldable pub sixteen : List ℕ → List ℕ
 sixteen ws = tabulate (at ws) 16

@@ -5,16 +5,12 @@ ghost use Rattle.std.specs.Prelude.{◌≡◌, ◌<◌};
 ghost use Rattle.code.specs.Family.{single, code_refusal};
 ghost use Rattle.code.specs.Laws.{Mending};
 ghost use Rattle.code.specs.Repair.{weights};
+ghost use Rattle.refusal.specs.Refusal.{number_of};
+ghost use Rattle.weights.specs.RepairWeights.{weights_answer};
 ghost use Rattle.weights.specs.Weights.{sixteen, WeightsSay};
 
 use code::{Code, Shape};
-
-// A refusal number, and the repair weights of a slot, one for each mate, with zeros after them.
-#[derive(Clone, Copy)]
-pub struct RepairWeights {
-    pub refusal: u32,
-    pub weights: [u8; 16],
-}
+use refusal::{Refusal, require};
 
 // The repair weights of a slot, with zeros after them: minus each mate's point by the slot's. That quotient is the point of group 0 as many
 // members on as the mate is from the slot, round a whole group even where the slot's is short.
@@ -39,30 +35,23 @@ pub fn weights_of(shape: Shape, slot: u32) -> [u8; 16]
 }
 
 // The weights call over any shape.
-pub fn weights_with(refusal: u32, shape: Shape, slot: u32) -> RepairWeights
-    requires { refusal ≡ 0 → Mending shape }
-    ensures { WeightsSay refusal shape slot result }
+#[tactic(auto, using(refusal::proofs::Refusals::chain, crate::proofs::Sixteen::sixteen_none), unfolding(code::specs::Question::ask, code::specs::Question::or_ask, crate::specs::Weights::weights_refusal))]
+pub fn weights_with(
+    asked: Result<(), Refusal>,
+    shape: Shape,
+    slot: u32,
+) -> Result<[u8; 16], Refusal>
+    requires { number_of asked ≡ 0 → Mending shape }
+    ensures { WeightsSay (number_of asked) shape slot (weights_answer result) }
 {
-    let refused = questions::ask(refusal, slot < shape.n, 7);
-    if refused != 0 {
-        return RepairWeights {
-            refusal: refused,
-            weights: [0u8; 16],
-        };
-    }
-    RepairWeights {
-        refusal: 0,
-        weights: weights_of(shape, slot),
-    }
+    asked?;
+    require(slot < shape.n, Refusal::Slot)?;
+    Ok(weights_of(shape, slot))
 }
 
 // The repair weights of a slot, in slot order of its mates.
-pub fn weights(code: Code, slot: u32) -> RepairWeights
-    ensures { WeightsSay (code_refusal code) (single code) slot result }
+pub fn weights(code: Code, slot: u32) -> Result<[u8; 16], Refusal>
+    ensures { WeightsSay (code_refusal code) (single code) slot (weights_answer result) }
 {
-    weights_with(
-        acceptance::code_refusal(code),
-        acceptance::single(code),
-        slot,
-    )
+    weights_with(acceptance::accepted(code), acceptance::single(code), slot)
 }

@@ -3,9 +3,4 @@ use Rattle.code.proofs.Accepted.{decodable_of}
 use Rattle.repair.proofs.rebuild.Goals as goal
 
 pub rebuild_with-requires : goal.rebuild_with-requires
-rebuild_with-requires c =
-    λ e. rw c.single.ensures (decodable_of c.args.code (sym c.code_refusal.ensures ∙ e))
-
-pub returns : goal.returns
-returns c =
-    rw (c.code_refusal.ensures, c.single.ensures) at c.rebuild_with.ensures
+rebuild_with-requires c e = rw c.single.ensures (decodable_of c.args.code (sym c.accepted.ensures ∙ e))

@@ -3,74 +3,57 @@ use Prim.Native.Nat.{◌*◌}
 use native.Mathlib.Omega.{arith}
 use lib.ListN.{length}
 use Rattle.code.specs.Repair.{weights}
+use Rattle.code.specs.Laws.{Mending}
+use Rattle.code.specs.Shape.{mates}
 use Rattle.code.proofs.Accepted.{mending}
-use Rattle.code.proofs.Answers.{fills_no, fills_yes}
+use Rattle.code.proofs.Answers.{answers_in, answers_is, fills_yes}
+use Rattle.code.proofs.Mates.{mates_number_is}
+use Rattle.refusal.specs.Refusal.{number_of}
 use Rattle.repair.specs.Mates.{mates_refusal, RebuildSays}
+use Rattle.repair.specs.Promise.{Strips}
 use Rattle.weights.proofs.Sixteen.{length_sixteen}
 use Rattle.weights.proofs.Weighing.{mates_most}
+use Rattle.repair.proofs.Refusals.{mates_passed}
 use Rattle.repair.proofs.Strips.{strip_is}
-use Rattle.repair.proofs.Asking.{Asked, stopped, asked, test_wanted, refused, tested, untested}
 use Rattle.repair.proofs.rebuild_with.Goals as goal
-use Rattle.repair.proofs.rebuild_with.Goals.{then-n-ne0+else-not-columns_held, else-n-ne0, Else-asked-ne0, Joined-n-ne0}
+use Rattle.repair.proofs.rebuild_with.Goals.{In_ok-number}
 
-pub returns-then-asked-ne0 : goal.returns-then-asked-ne0
-unfolding RebuildSays
-returns-then-asked-ne0 c =
-    let a = c.args in
-    fills_no (mates_refusal a.refusal a.shape a.slot (length a.output.now) a.strips.now) _ _ _ _ (stopped a.refusal a.shape a.slot (length a.output.now) a.strips.now c.strips_asked-asked.result c.strips_asked-asked.ensures c.if-asked-ne0.true) c.if-asked-ne0.true refl
+-- nothing is refused
+zero : (c : In_ok-number) → let a = c.args in mates_refusal (number_of a.asked) a.shape a.slot (length a.output.now) a.strips.now ≡ 0
+zero c = sym (answers_is _ _ _ c.in_ok-number.ensures)
 
--- the questions before 9 are passed
-before_9 : (c : Else-asked-ne0) → let a = c.args in Asked a.refusal a.shape a.slot (length a.output.now) a.strips.now c.strips_asked-asked.result
-before_9 c =
+passed : (c : In_ok-number) → let a = c.args in Mending a.shape × Strips a.shape a.slot (length a.output.now) a.strips.now
+passed c =
     let a = c.args in
-    asked a.refusal a.shape a.slot (length a.output.now) a.strips.now c.strips_asked-asked.result c.strips_asked-asked.ensures c.requires c.if-asked-ne0.false
+    let t = mates_passed (number_of a.asked) a.shape a.slot (length a.output.now) a.strips.now (zero c) in
+    (mending a.shape (c.requires t.0), t.1)
 
-pub columns_held-requires : goal.columns_held-requires
-columns_held-requires c =
+number : (c : In_ok-number) → let a = c.args in c.in_ok-number.field-0 ≡ length (mates a.shape a.slot)
+number c =
     let a = c.args in
-    test_wanted a.refusal a.shape a.slot (length a.output.now) a.strips.now c.strips_asked-asked.result (before_9 (goal.at.columns_held-requires c).Else-asked-ne0) c.checks_with-n.result c.checks_with-n.ensures
-
-pub returns-then-not-columns_held : goal.returns-then-not-columns_held
-unfolding RebuildSays
-returns-then-not-columns_held c =
-    let a = c.args in
-    fills_no (mates_refusal a.refusal a.shape a.slot (length a.output.now) a.strips.now) _ _ _ _
-    (refused a.refusal a.shape a.slot (length a.output.now) a.strips.now c.strips_asked-asked.result (before_9 (goal.at.returns-then-not-columns_held c).Else-asked-ne0) c.checks_with-n.result c.checks_with-n.ensures c.columns_held.result c.columns_held.ensures
-    c.if-not-columns_held.true)
-    (λ z. absurd (omega arith)) refl
-
--- and 9 is
-none : (c : Joined-n-ne0)
-    → (before_9_here : let a = c.args in Asked a.refusal a.shape a.slot (length a.output.now) a.strips.now c.strips_asked-asked.result)
-    → let a = c.args in mates_refusal a.refusal a.shape a.slot (length a.output.now) a.strips.now ≡ 0
-none c before_9_here =
-    let a = c.args in
-    let x = c.strips_asked-asked.result in
-    elim c.if-n-ne0.branch [
-      | then-n-ne0+else-not-columns_held w ↦ tested a.refusal a.shape a.slot (length a.output.now) a.strips.now x before_9_here c.checks_with-n.result c.checks_with-n.ensures w.columns_held.result w.columns_held.ensures w.if-not-columns_held.false
-      | else-n-ne0 w ↦ untested a.refusal a.shape a.slot (length a.output.now) a.strips.now x before_9_here c.checks_with-n.result c.checks_with-n.ensures w.if-n-ne0.false
-    ]
+    (answers_in _ _ _ (zero c) c.in_ok-number.ensures).1 ∙ mates_number_is a.shape a.slot (passed c).1.slot
 
 pub weights_of-weights-requires : goal.weights_of-weights-requires
-weights_of-weights-requires c = let A = before_9 (goal.at.weights_of-weights-requires c).Else-asked-ne0 in (mending c.args.shape A.decodable, A.strips.slot)
+weights_of-weights-requires c = let t = passed (goal.at.weights_of-weights-requires c).In_ok-number in (t.0, t.1.slot)
 
 pub rebuild_columns-requires : goal.rebuild_columns-requires
 rebuild_columns-requires c =
     let a = c.args in
-    let A = before_9 (goal.at.rebuild_columns-requires c).Else-asked-ne0 in
-    let Q = A.strips in
-    let k = mates_most a.shape (mending a.shape A.decodable) a.slot Q.slot in (
-      omega (arith, k, A.number),
-      omega (arith, k, A.number, ap (λ l. length l) c.weights_of-weights.ensures, length_sixteen (weights a.shape a.slot)),
-      Q.most,
-      Q.long ∙ ap (λ k. k * length a.output.now) (sym A.number),
+    let l = (goal.at.rebuild_columns-requires c).In_ok-number in
+    let t = passed l in
+    let k = mates_most a.shape t.0 a.slot t.1.slot in (
+      omega (arith, k, number l),
+      omega (arith, k, number l, ap (λ l. length l) c.weights_of-weights.ensures, length_sixteen (weights a.shape a.slot)),
+      t.1.most,
+      t.1.long ∙ ap (λ k. k * length a.output.now) (sym (number l)),
     )
 
 pub returns : goal.returns
 unfolding RebuildSays
 returns c =
     let a = c.args in
-    let A = before_9 (goal.at.returns c).Else-asked-ne0 in
-    fills_yes (mates_refusal a.refusal a.shape a.slot (length a.output.now) a.strips.now) _ _ _ _ (none (goal.at.returns c).Joined-n-ne0 (before_9 (goal.at.returns c).Else-asked-ne0)) refl
+    let l = (goal.at.returns c).In_ok-number in
+    let t = passed l in
+    fills_yes _ _ _ _ _ (zero l) refl
     (c.rebuild_columns.ensures
-    ∙ strip_is a.shape (mending a.shape A.decodable) a.slot A.strips.slot (length a.output.now) c.weights_of-weights.result a.strips.now c.weights_of-weights.ensures c.strips_asked-asked.result.value A.number)
+    ∙ strip_is a.shape t.0 a.slot t.1.slot (length a.output.now) c.weights_of-weights.result a.strips.now c.weights_of-weights.ensures _ (number l))

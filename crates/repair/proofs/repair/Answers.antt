@@ -3,7 +3,4 @@ use Rattle.code.proofs.Accepted.{decodable_of}
 use Rattle.repair.proofs.repair.Goals as goal
 
 pub repair_with-requires : goal.repair_with-requires
-repair_with-requires c = λ e. rw c.single.ensures (decodable_of c.args.code (sym c.code_refusal.ensures ∙ e))
-
-pub returns : goal.returns
-returns c = rw (c.code_refusal.ensures, c.single.ensures) at c.repair_with.ensures
+repair_with-requires c e = rw c.single.ensures (decodable_of c.args.code (sym c.accepted.ensures ∙ e))

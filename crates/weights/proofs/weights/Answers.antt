@@ -3,7 +3,4 @@ use Rattle.code.proofs.Accepted.{mending_of}
 use Rattle.weights.proofs.weights.Goals as goal
 
 pub weights_with-requires : goal.weights_with-requires
-weights_with-requires c = λ e. rw c.single.ensures (mending_of c.args.code (sym c.code_refusal.ensures ∙ e))
-
-pub returns : goal.returns
-returns c = rw (c.code_refusal.ensures, c.single.ensures) at c.weights_with.ensures
+weights_with-requires c e = rw c.single.ensures (mending_of c.args.code (sym c.accepted.ensures ∙ e))
