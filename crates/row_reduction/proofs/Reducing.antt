@@ -1,9 +1,8 @@
 -- Adding to one row a multiple of another keeps what the rows annul. Assumes nothing.
 --   dotted_scaled         the sum over us + c bs
 --   row_at, length_row    entries of a row
---   reduced_none, reduced_then    nothing done; one thing after another
 --   reduced_add           one row and a multiple of another
-use mathlib.Core.Path.{◌≡◌, refl, sym, ap, ap₂, ◌∙◌}
+use mathlib.Core.Path.{◌≡◌, sym, ap, ap₂, ◌∙◌}
 use mathlib.Core.Logic.{◌≢◌}
 use mathlib.Core.List.{List, [], ◌∷◌}
 use Prim.Native.Nat.{ℕ, suc, ◌+◌, ◌*◌, ◌≤◌, ◌<◌, suc-le-suc}
@@ -77,18 +76,6 @@ module _ (xs : List ℕ) (c r : ℕ) (few : r ≤ 16) where
       go : Dec (i < r) → at (take r (matrix_row xs c)) i < q f
       go (yes h) = rw (front_at i h) (e (c * 16 + i))
       go (no h) = rw (at_past (take r (matrix_row xs c)) i (omega (arith, front_long))) (zero_below f)
-
-pub reduced_none : (f n : ℕ) (a : List ℕ) → Elements f a → Reduced f n a a
-reduced_none f n a e = record { size = refl; below = e; on = λ r ys h y t. t; back = λ r ys h y t. t }
-
-pub reduced_then : (f n : ℕ) (a x z : List ℕ) → Reduced f n a x → Reduced f n x z → Reduced f n a z
-reduced_then f n a x z A X =
-    record {
-      size = X.size ∙ A.size;
-      below = X.below;
-      on = λ r ys h y t. X.on r ys h y (A.on r ys h y t);
-      back = λ r ys h y t. A.back r ys h y (X.back r ys h y t);
-    }
 
 module _ (f n : ℕ) (x z : List ℕ) (a b c d e : ℕ) (d_is : d ≡ a * 16) (e_is : e ≡ b * 16) (apart : a ≢ b) (c_below : c < q f) (E : Elements f x)
     (A : Added f x z d e 16 c) where
