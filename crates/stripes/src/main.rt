@@ -37,22 +37,13 @@ fn run(record: &Record, kind: Kind) -> bool {
     }
 }
 
-// Whether the record of these bytes can be read, and its call leaves what it says.
-fn agrees(bytes: &[u8], kind: Kind) -> bool {
-    match Record::read(bytes) {
-        Some(record) => run(&record, kind),
-        None => false,
-    }
-}
-
 // Makes the calls of all records, and counts them.
 fn run_all(input: &[u8]) -> Tally {
     let mut tally = Tally::default();
     for bytes in Records(input) {
-        if let Some(number) = vectors::number_of(bytes) {
-            if let Ok(kind) = Kind::try_from(number) {
-                tally.count(kind, agrees(bytes, kind));
-            }
+        let record = Record::read(bytes);
+        if let Ok(kind) = Kind::try_from(record.call.number) {
+            tally.count(kind, run(&record, kind));
         }
     }
     tally

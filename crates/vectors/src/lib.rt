@@ -24,72 +24,90 @@ impl<'a> Iterator for Records<'a> {
     }
 }
 
-// What is left of a record to read.
+// What is left of a record to read. What is not there reads as 0.
 #[derive(Clone, Copy)]
 struct Reader<'a>(&'a [u8]);
 
 impl<'a> Reader<'a> {
-    fn number(&mut self) -> Option<u32> {
-        let (front, rest) = self.0.split_first_chunk::<4>()?;
-        self.0 = rest;
-        Some(u32::from_be_bytes(*front))
+    // The number in front.
+    fn front(self) -> u32 {
+        match self.0.first_chunk::<4>() {
+            Some(number) => u32::from_be_bytes(*number),
+            None => 0,
+        }
     }
 
-    fn call(&mut self) -> Option<Call> {
-        Some(Call {
-            number: self.number()?,
-            field: self.number()?,
-            r: self.number()?,
-            n: self.number()?,
-            k: self.number()?,
-            wiring: self.number()?,
-            slot: self.number()?,
-        })
+    // What stands behind so many bytes.
+    fn behind(self, n: usize) -> Reader<'a> {
+        Reader(self.0.get(n..).unwrap_or(&[]))
     }
 
-    fn buffer(&mut self) -> Option<Buffer<'a>> {
-        let length = self.number()? as usize;
-        let number = self.number()? as usize;
-        let (given, rest) = self.0.split_at_checked(number)?;
-        self.0 = rest;
-        Some(Buffer { length, given })
+    fn number(&mut self) -> u32 {
+        let number = self.front();
+        *self = self.behind(4);
+        number
+    }
+
+    fn call(&mut self) -> Call {
+        Call {
+            number: self.number(),
+            field: self.number(),
+            r: self.number(),
+            n: self.number(),
+            k: self.number(),
+            wiring: self.number(),
+            slot: self.number(),
+        }
+    }
+
+    fn buffer(&mut self) -> Buffer<'a> {
+        let length = self.number() as usize;
+        let number = self.number() as usize;
+        let given = self.0;
+        *self = self.behind(number);
+        Buffer {
+            length,
+            number,
+            given,
+        }
     }
 
     // Buffer i from here on.
-    fn buffer_at(mut self, i: usize) -> Option<Buffer<'a>> {
+    fn buffer_at(mut self, i: usize) -> Buffer<'a> {
         for _ in 0..i {
-            self.buffer()?;
+            self.buffer();
         }
         self.buffer()
     }
 }
 
-// A buffer: its length in bytes, and the bytes that it repeats.
+// A buffer: its length in bytes, how many bytes it repeats, and the record from the first of these on.
 #[derive(Clone, Copy)]
 pub struct Buffer<'a> {
     length: usize,
+    number: usize,
     given: &'a [u8],
 }
 
-// The bytes of a buffer, over and over; zeros where none are given.
+// The bytes of a buffer, over and over.
 #[derive(Clone, Copy)]
 pub struct Bytes<'a> {
+    number: usize,
     given: &'a [u8],
     at: usize,
 }
 
 impl<'a> Bytes<'a> {
     fn next_byte(&mut self) -> u8 {
-        if self.at >= self.given.len() {
+        if self.at >= self.number {
             self.at = 0;
         }
-        match self.given.get(self.at) {
-            Some(b) => {
-                self.at += 1;
-                *b
-            }
-            None => 0,
+        if self.number == 0 {
+            return 0;
         }
+        let at = self.at;
+        self.at = at + 1;
+        self.given.get(at).copied().unwrap_or(0)
     }
 }
 
@@ -128,6 +146,7 @@ impl Element for u32 {
 impl<'a> Buffer<'a> {
     fn bytes(self) -> Bytes<'a> {
         Bytes {
+            number: self.number,
             given: self.given,
             at: 0,
         }
@@ -157,46 +176,47 @@ pub struct Call {
     pub slot: u32,
 }
 
-// The number of a record's call.
-pub fn number_of(bytes: &[u8]) -> Option<u32> {
-    Reader(bytes).number()
-}
-
 // A record.
 #[derive(Clone, Copy)]
 pub struct Record<'a> {
     pub call: Call,
+    buffers: usize,
     before: Reader<'a>,
     answer: u64,
     after: Reader<'a>,
 }
 
 impl<'a> Record<'a> {
-    // The record of these bytes; none where they end before the buffers after the call.
-    pub fn read(bytes: &'a [u8]) -> Option<Record<'a>> {
+    pub fn read(bytes: &'a [u8]) -> Record<'a> {
         let mut reader = Reader(bytes);
-        let call = reader.call()?;
-        let buffers = reader.number()?;
+        let call = reader.call();
+        let buffers = reader.number() as usize;
         let before = reader;
         for _ in 0..buffers {
-            reader.buffer()?;
+            reader.buffer();
         }
-        let refusal = reader.number()?;
-        let value = reader.number()?;
-        Some(Record {
+        let refusal = reader.number();
+        let value = reader.number();
+        Record {
             call,
+            buffers,
             before,
             answer: pair(refusal, value),
             after: reader,
-        })
+        }
     }
 
-    // Buffer i before the call; the empty one where there is none.
+    // Buffer i before the call; an empty one behind the last. A read of a sheet, call 10, always has three of bytes.
     pub fn buffer(&self, i: usize) -> Buffer<'a> {
-        self.before.buffer_at(i).unwrap_or(Buffer {
+        let buffer = self.before.buffer_at(i);
+        let least = if self.call.number == 10 { 3 } else { 0 };
+        if i < self.buffers.max(least) {
+            return buffer;
+        }
+        Buffer {
             length: 0,
-            given: &[],
-        })
+            ..buffer
+        }
     }
 
     // Whether the answer and the first buffers are what they should be after the call.
@@ -212,14 +232,10 @@ impl<'a> Record<'a> {
         true
     }
 
-    // Whether buffer i is what it should be after the call: never where the record has none.
+    // Whether buffer i is what it should be after the call.
     pub fn leaves<T: Element>(&self, i: usize, buffer: &[T]) -> bool {
-        let Some(kept) = self.before.buffer_at(i) else {
-            return false;
-        };
-        let Some(changed) = self.after.buffer_at(i) else {
-            return false;
-        };
+        let kept = self.before.buffer_at(i);
+        let changed = self.after.buffer_at(i);
         let n = T::number_in(changed.length);
         let mut before = kept.bytes();
         let mut after = changed.bytes();
