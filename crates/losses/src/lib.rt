@@ -1,10 +1,9 @@
 // What marks say of a stripe: its losses and its first broken group; and how many losses it stands for certain.
 #![tactic(auto)]
 
-ghost use Rattle.std.specs.Prelude.{◌≡◌, ◌<◌, length};
-ghost use Rattle.code.specs.Shape.{groups};
+ghost use Rattle.std.specs.Prelude.{◌≡◌, length};
 ghost use Rattle.code.specs.Codeword.{guarantee};
-ghost use Rattle.code.specs.Erasure.{lost_number, group_losses, first_broken};
+ghost use Rattle.code.specs.Erasure.{lost_number, first_broken};
 ghost use Rattle.code.specs.Laws.{Placed, Family};
 
 use code::Shape;
@@ -17,29 +16,27 @@ pub fn count_lost(shape: Shape, marks: &[u8]) -> u32
     questions::losses_from(marks, 0, 1, shape.n as usize) as u32
 }
 
-// How many members of a group are lost.
-fn losses_of(shape: Shape, group: u32, marks: &[u8]) -> usize
-    requires { Placed shape × (group < groups shape) × (length marks.now ≡ shape.n) }
-    ensures { result ≡ group_losses shape group marks.now }
-{
-    let first = layout::first_of(shape, group) as usize;
-    let step = layout::step_of(shape) as usize;
-    let members = layout::members_of(shape, group) as usize;
-    questions::losses_from(marks, first, step, members)
-}
-
 // The first group with more losses than it stands, 255 if none.
 pub fn first_group(shape: Shape, marks: &[u8]) -> u32
     requires { Placed shape × (length marks.now ≡ shape.n) }
     ensures { result ≡ first_broken shape marks.now }
 {
-    for group in 0..layout::groups_of(shape) {
-        let lost = losses_of(shape, group, marks);
-        if lost > shape.tolerance as usize {
-            return group;
+    let step = layout::step_of(shape);
+    let mut found: u32 = 255;
+    'groups: for group in 0..layout::groups_of(shape) {
+        let first = layout::first_of(shape, group);
+        let mut lost: u32 = 0;
+        for i in 0..layout::members_of(shape, group) {
+            if marks[(first + i * step) as usize] == 1 {
+                lost += 1;
+            }
+            if lost > shape.tolerance {
+                found = group;
+                break 'groups;
+            }
         }
     }
-    255
+    found
 }
 
 // n - k - tolerance × (⌈k'/r⌉ - 1), k' = k + missing: so many losses never lose a message.
