@@ -6,10 +6,12 @@ ghost use Rattle.code.specs.Erasure.{lost_number, first_broken, grade};
 ghost use Rattle.code.specs.Family.{single, code_refusal};
 ghost use Rattle.code.specs.Laws.{Placed, Plain, Decodable};
 ghost use Rattle.code.specs.Work.{cleared};
-ghost use Rattle.grading.specs.Grade.{GradeSays};
+ghost use Rattle.refusal.specs.Refusal.{number_of, answer_of};
+ghost use Rattle.grading.specs.Grade.{grade_refusal, GradeSays};
 ghost use Rattle.grading.specs.Step.{counted, graded, lengths_refusal, Marked};
 
-use code::{Answer, Code, Shape};
+use code::{Code, Shape};
+use refusal::{Refusal, require};
 
 // What marks say of a stripe: the number lost, the grade, and the first group with more losses than it stands, 255 if none.
 #[derive(Clone, Copy)]
@@ -78,47 +80,61 @@ pub fn graded_in(shape: Shape, marks: &[u8], work: &mut [u8]) -> Graded
     Graded { lost, grade, first }
 }
 
-// The refusal of the numbers, or 5 where there is no mark for every slot or too little work; marks and work are their lengths.
-pub fn lengths_refusal(refusal: u32, shape: Shape, marks: usize, work: usize) -> u32
-    requires { refusal ≡ 0 → Decodable shape }
-    ensures { result ≡ lengths_refusal refusal shape marks work }
+// Questions 5 and those before: a mark for every slot, and work enough; marks and work are their lengths.
+#[tactic(auto, using(refusal::proofs::Refusals::chain), unfolding(code::specs::Question::ask, code::specs::Question::or_ask, crate::specs::Step::lengths_refusal, code::specs::Work::used))]
+pub fn lengths_asked(
+    asked: Result<(), Refusal>,
+    shape: Shape,
+    marks: usize,
+    work: usize,
+) -> Result<(), Refusal>
+    requires { number_of asked ≡ 0 → Decodable shape }
+    ensures { number_of result ≡ lengths_refusal (number_of asked) shape marks work }
 {
-    if refusal != 0 {
-        return refusal;
-    }
+    asked?;
     let n = shape.n as usize;
     let k = shape.k as usize;
     let used = n * (k + 1);
-    let marked = questions::ask(refusal, marks == n, 5);
-    questions::ask(marked, used <= work, 5)
+    require(marks == n && used <= work, Refusal::Buffers)
+}
+
+// Questions 5 and 8 of grade, and those before.
+#[tactic(auto, using(refusal::proofs::Refusals::chain), unfolding(code::specs::Question::ask, code::specs::Question::or_ask, crate::specs::Step::lengths_refusal, crate::specs::Grade::grade_refusal))]
+fn grade_asked(
+    asked: Result<(), Refusal>,
+    shape: Shape,
+    marks: &[u8],
+    work: usize,
+) -> Result<(), Refusal>
+    requires { number_of asked ≡ 0 → Decodable shape }
+    ensures { number_of result ≡ grade_refusal (number_of asked) shape marks.now work }
+{
+    lengths_asked(asked, shape, marks.len(), work)?;
+    require(questions::all_below(marks, 2), Refusal::Mark)
 }
 
 // Grades a stripe by its marks.
-pub fn grade_with(refusal: u32, shape: Shape, marks: &[u8], work: &mut [u8]) -> Answer
-    requires { refusal ≡ 0 → Decodable shape }
-    ensures { GradeSays refusal shape marks.now result work.old work.new }
+#[tactic(auto, using(refusal::proofs::Refusals::chain, crate::proofs::Refusals::handed), unfolding(crate::specs::Grade::GradeSays, crate::specs::Grade::GradeAs, crate::specs::Step::graded))]
+pub fn grade_with(
+    asked: Result<(), Refusal>,
+    shape: Shape,
+    marks: &[u8],
+    work: &mut [u8],
+) -> Result<u32, Refusal>
+    requires { number_of asked ≡ 0 → Decodable shape }
+    ensures { GradeSays (number_of asked) shape marks.now (answer_of result) work.old work.new }
 {
-    let lengths = lengths_refusal(refusal, shape, marks.len(), work.len());
-    let asked = questions::ask(lengths, questions::all_below(marks, 2), 8);
-    if asked != 0 {
-        return Answer {
-            refusal: asked,
-            value: 0,
-        };
-    }
+    grade_asked(asked, shape, marks, work.len())?;
     let seen = graded_in(shape, marks, work);
-    Answer {
-        refusal: 0,
-        value: seen.grade,
-    }
+    Ok(seen.grade)
 }
 
 // The call on a code of the paper.
-pub fn grade(code: Code, marks: &[u8], work: &mut [u8]) -> Answer
-    ensures { GradeSays (code_refusal code) (single code) marks.now result work.old work.new }
+pub fn grade(code: Code, marks: &[u8], work: &mut [u8]) -> Result<u32, Refusal>
+    ensures { GradeSays (code_refusal code) (single code) marks.now (answer_of result) work.old work.new }
 {
     grade_with(
-        acceptance::code_refusal(code),
+        acceptance::accepted(code),
         acceptance::single(code),
         marks,
         work,

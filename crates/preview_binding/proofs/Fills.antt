@@ -12,7 +12,7 @@ use Rattle.code.specs.declared.Code.{Code}
 use Rattle.code.specs.Question.{ask, or_ask}
 use Rattle.code.specs.Family.{single, code_refusal}
 use Rattle.code.proofs.Questions.{asked, or_ask_passed}
-use Rattle.previewing.specs.declared.Previewed.{Previewed}
+use Rattle.previewing.specs.Preview.{Previewed}
 use Rattle.previewing.specs.Preview.{preview_refusal, no_preview, preview_of, PreviewAs, PreviewSays}
 use Rattle.preview_binding.specs.Preview.{numbers_of, fill_refusal, PreviewFillsAs, PreviewFills}
 

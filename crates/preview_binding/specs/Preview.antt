@@ -7,7 +7,7 @@ use Rattle.code.specs.Question.{ask, or_ask}
 use Rattle.code.specs.Family.{single, code_refusal}
 use Rattle.code.specs.declared.Code.{Code}
 use Rattle.code.specs.Work.{cleared}
-use Rattle.previewing.specs.declared.Previewed.{Previewed}
+use Rattle.previewing.specs.Preview.{Previewed}
 use Rattle.previewing.specs.Preview.{preview_refusal, preview_of}
 
 unfoldable pub numbers_of : Previewed → List ℕ

@@ -20,7 +20,7 @@ use Rattle.code.specs.Laws.{Placed, Family}
 use Rattle.code.proofs.Bounds.{n_most}
 use Rattle.code.proofs.Graded.{four_is, grade_most, first_most}
 use Rattle.previewing.specs.Preview.{marked, preview_of}
-use Rattle.previewing.specs.declared.Previewed.{Previewed}
+use Rattle.previewing.specs.Preview.{Previewed}
 use Rattle.text.specs.Text.{ascii, spaced, Puts}
 use Rattle.text.proofs.Puts.{puts_then, puts_as, puts_none, front_end, front_bytes}
 use Rattle.preview_lines.specs.Lines.{joined, slot_line, kept_line, safe, safe_slot, preview_lines}

@@ -18,7 +18,7 @@ use Rattle.code.proofs.Answers.{answers_in}
 use Rattle.erasures.specs.Marks.{marks_refusal, LossesSays, FirstSays}
 use Rattle.grading.specs.Grade.{grade_refusal}
 use Rattle.grading.proofs.Replies.{answered as graded}
-use Rattle.previewing.specs.declared.Previewed.{Previewed}
+use Rattle.previewing.specs.Preview.{Previewed}
 use Rattle.previewing.specs.Preview.{marked, preview_of}
 use Rattle.previewing.specs.Promise.{Told, Same, PreviewIs, LostAgain, OneMore, Promises}
 use Rattle.previewing.proofs.Marking.{again, still_lost, size_marked, marks_marked}

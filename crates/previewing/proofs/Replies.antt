@@ -17,7 +17,7 @@ use Rattle.code.specs.Work.{used, cleared}
 use Rattle.code.proofs.Questions.{asked, or_ask_passed}
 use Rattle.grading.specs.Step.{graded}
 use Rattle.grading.specs.declared.Graded.{Graded}
-use Rattle.previewing.specs.declared.Previewed.{Previewed}
+use Rattle.previewing.specs.Preview.{Previewed}
 use Rattle.previewing.specs.Preview.{marked, preview_refusal, preview_of, no_preview, PreviewAs, PreviewSays}
 
 pub record Asked (n : ℕ) (s : Shape) (p : ℕ) (ms : List ℕ) (b : ℕ) : Type 0 where

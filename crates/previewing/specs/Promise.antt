@@ -12,7 +12,7 @@ use Rattle.code.specs.Laws.{Family}
 use Rattle.code.specs.Work.{used}
 use Rattle.erasures.specs.Marks.{LossesSays, FirstSays}
 use Rattle.grading.specs.Grade.{GradeSays}
-use Rattle.previewing.specs.declared.Previewed.{Previewed}
+use Rattle.previewing.specs.Preview.{Previewed}
 use Rattle.previewing.specs.Preview.{marked, preview_refusal, PreviewSays}
 
 -- l, g and f are what losses, grade and first_broken answer of the marks ms

@@ -3,7 +3,4 @@ use Rattle.code.proofs.Accepted.{decodable_of}
 use Rattle.grading.proofs.grade.Goals as goal
 
 pub grade_with-requires : goal.grade_with-requires
-grade_with-requires c = λ z. (rw c.single.ensures (decodable_of c.args.code (sym c.code_refusal.ensures ∙ z)))
-
-pub returns : goal.returns
-returns c = rw (c.code_refusal.ensures, c.single.ensures) at c.grade_with.ensures
+grade_with-requires c e = rw c.single.ensures (decodable_of c.args.code (sym c.accepted.ensures ∙ e))
