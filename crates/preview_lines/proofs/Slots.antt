@@ -19,8 +19,7 @@ use Rattle.code.specs.Decoding.{lost, undecided}
 use Rattle.code.specs.Laws.{Placed, Family}
 use Rattle.code.proofs.Bounds.{n_most}
 use Rattle.code.proofs.Graded.{four_is, grade_most, first_most}
-use Rattle.previewing.specs.Preview.{marked, preview_of}
-use Rattle.previewing.specs.Preview.{Previewed}
+use Rattle.previewing.specs.Preview.{Previewed, marked, preview_of}
 use Rattle.text.specs.Text.{ascii, spaced, Puts}
 use Rattle.text.specs.Page.{Wrote}
 use Rattle.text.specs.declared.Page.{Page}

@@ -71,7 +71,7 @@ fn body_asked(code: Code, sheet: &[u8]) -> Result<(), Refusal>
 }
 
 // The questions on a sheet's bytes.
-#[tactic(auto, using(refusal::proofs::Refusals::chain), unfolding(code::specs::Question::ask, code::specs::Question::or_ask, crate::specs::Sheet::code_in, crate::specs::Calls::sheet_refusal))]
+#[tactic(auto, using(refusal::proofs::Refusals::chain, words::proofs::Words::code_test), unfolding(code::specs::Question::ask, code::specs::Question::or_ask, crate::specs::Sheet::code_in, crate::specs::Calls::sheet_refusal))]
 fn sheet_asked(sheet: &[u8]) -> Result<(), Refusal>
     ensures { number_of result ≡ sheet_refusal sheet.now }
 {
