@@ -33,7 +33,7 @@ pub fn is_whole(code: Code) -> bool
 }
 
 // Questions 1 to 4 and 17, in order.
-#[tactic(auto, using(refusal::proofs::Refusals::is_refusal), unfolding(code::specs::Question::ask, code::specs::Family::field_known, code::specs::Family::code_refusal))]
+#[tactic(auto, using(refusal::proofs::Refusals::chain), unfolding(code::specs::Question::ask, code::specs::Family::field_known, code::specs::Family::code_refusal))]
 pub fn accepted(code: Code) -> Result<(), Refusal>
     ensures { number_of result ≡ code_refusal code }
 {

@@ -2,39 +2,42 @@
 #![tactic(auto)]
 
 ghost use Rattle.std.specs.Prelude.{◌≡◌, length};
+ghost use Rattle.refusal.specs.Refusal.{number_of, answer_of};
 ghost use Rattle.binding.specs.Pack.{unpacked, code_row};
 ghost use Rattle.binding.specs.Fill.{WeightsFill};
 
-use code::{Answer, Code};
+use code::Code;
+use refusal::{Refusal, require};
 
 // An answer in one number: the refusal high, the value low.
-pub fn packed(answer: Answer) -> u64
-    ensures { unpacked result ≡ answer }
+#[tactic(auto, unfolding(crate::specs::Pack::unpacked))]
+pub fn packed(answer: Result<u32, Refusal>) -> u64
+    ensures { unpacked result ≡ answer_of answer }
 {
-    answer.refusal as u64 * 0x1_0000_0000 + answer.value as u64
+    match answer {
+        Ok(value) => value as u64,
+        Err(refusal) => refusal.number() as u64 * 0x1_0000_0000,
+    }
 }
 
 // Writes the five numbers of a code.
+#[tactic(auto, unfolding(crate::specs::Pack::code_row))]
 pub fn put_code(code: Code, numbers: &mut [u32])
     requires { length numbers.old ≡ 5 }
     ensures { numbers.new ≡ code_row code }
 {
     let row = [code.field, code.r, code.n, code.k, code.wiring];
-    copying::copy_numbers(&row, numbers);
+    numbers.copy_from_slice(&row);
 }
 
 // Writes the sixteen repair weights of a slot.
-pub fn weights_into(code: Code, slot: u32, weights: &mut [u8]) -> u32
-    ensures { WeightsFill code slot result weights.old weights.new }
+#[tactic(auto, using(refusal::proofs::Refusals::chain), unfolding(code::specs::Question::ask, code::specs::Question::or_ask, weights::specs::Weights::weights_refusal, crate::specs::Fill::weights_refusal, crate::specs::Fill::WeightsFill))]
+pub fn weights_into(code: Code, slot: u32, weights: &mut [u8]) -> Result<(), Refusal>
+    ensures { WeightsFill code slot (number_of result) weights.old weights.new }
 {
-    let asked = questions::ask(acceptance::code_refusal(code), weights.len() == 16, 5);
-    let found = weights::weights_with(asked, acceptance::single(code), slot);
-    let refused = found.refusal;
-    let stops = refused != 0;
-    if stops {
-        return refused;
-    }
-    let sixteen = found.weights;
-    copying::copy(&sixteen, 0, 16, weights, 0);
-    0
+    acceptance::accepted(code)?;
+    require(weights.len() == 16, Refusal::Buffers)?;
+    let sixteen = weights::weights_with(Ok(()), acceptance::single(code), slot)?;
+    weights.copy_from_slice(&sixteen);
+    Ok(())
 }

@@ -5,161 +5,178 @@ ghost use Rattle.std.specs.Prelude.{◌≡◌, ◌≤◌, length};
 ghost use Rattle.code.specs.Laws.{Decodable};
 
 use code::{Code, Shape};
-use console::{text, words};
+use console::words::{Words, is_decimal, value_of};
+use refusal::Refusal;
+use std::io::{Result, Write};
 
-// What stands in front of the text: the sheet (status 0), or a sentence on what is wrong with the input (status 1).
-#[derive(Clone, Copy)]
-pub struct Written {
-    pub status: u32,
-    pub len: usize,
+// What was written: the sheet, or a sentence on what is wrong with the input.
+#[derive(Clone, Copy, PartialEq, Eq, Debug)]
+pub enum Written {
+    Sheet,
+    Refusal,
 }
 
-// Puts the sentence that refuses number i of the input, from 0.
-fn refuse(text: &mut [u8], input: &[u8], i: usize, reason: &[u8]) -> Written {
-    let mut next = text::put(text, 0, b"number");
-    next = text::put_spaced(text, next, (i % 4096) as u32 + 1);
-    next = text::put(text, next, b", \"");
-    next = text::put_word(text, next, words::bytes_at(input, i));
-    next = text::put(text, next, b"\", is refused: ");
-    let len = text::put(text, next, reason);
-    Written { status: 1, len }
+// Writes a word of the input, cut behind its twentieth byte; control characters become question marks.
+fn put_word<W: Write>(output: &mut W, word: &[u8]) -> Result<()> {
+    for b in word.iter().take(20) {
+        let shown = if b.is_ascii_control() { b'?' } else { *b };
+        output.write_all(&[shown])?;
+    }
+    if word.len() > 20 {
+        output.write_all(b"..")?;
+    }
+    Ok(())
 }
 
-// Puts the sentence of a refusal of question 4.
-fn refuse_dimension(text: &mut [u8], input: &[u8], code: Code) -> Written {
-    if acceptance::is_whole(code) {
-        return refuse(
-            text,
-            input,
+// Writes the sentence that refuses a number of the input, number i from 0.
+fn refuse<W: Write>(output: &mut W, i: usize, word: &[u8], reason: &str) -> Result<Written> {
+    write!(output, "number {}, \"", i % 4096 + 1)?;
+    put_word(output, word)?;
+    write!(output, "\", is refused: {reason}")?;
+    Ok(Written::Refusal)
+}
+
+// The same, of a number that is looked up.
+fn refuse_at<W: Write>(
+    output: &mut W,
+    mut words: Words,
+    i: usize,
+    reason: &str,
+) -> Result<Written> {
+    refuse(output, i, words.nth(i).unwrap_or(b""), reason)
+}
+
+// Writes the sentence of a code's refusal, by question 2, 3, 4 or 17.
+fn refuse_code<W: Write>(
+    output: &mut W,
+    words: Words,
+    code: Code,
+    refusal: Refusal,
+) -> Result<Written> {
+    let (i, reason) = match refusal {
+        Refusal::Locality => (0, "r is 1, 2, 3, 5 or 11 (refusal 2)"),
+        Refusal::Length => (
+            1,
+            "n is from 2 to 12, and n mod (r + 1) is not 1 (refusal 3)",
+        ),
+        Refusal::Wiring => (
+            1,
+            "wired groups are whole: n is a multiple of r + 1 (refusal 17)",
+        ),
+        _ if acceptance::is_whole(code) => (2, "k is from 1 to r * n / (r + 1) (refusal 4)"),
+        _ => (
             2,
-            b"k is from 1 to r * n / (r + 1) (refusal 4)",
-        );
-    }
-    refuse(
-        text,
-        input,
-        2,
-        b"k is from s - 1 to n - m, for m groups of which the last has s slots (refusal 4)",
-    )
+            "k is from s - 1 to n - m, for m groups of which the last has s slots (refusal 4)",
+        ),
+    };
+    refuse_at(output, words, i, reason)
 }
 
-// Puts the sentence of a code's refusal, by question 2, 3, 4 or 17.
-fn refuse_code(text: &mut [u8], input: &[u8], code: Code, refusal: u32) -> Written {
-    match refusal {
-        2 => refuse(text, input, 0, b"r is 1, 2, 3, 5 or 11 (refusal 2)"),
-        3 => refuse(
-            text,
-            input,
-            1,
-            b"n is from 2 to 12, and n mod (r + 1) is not 1 (refusal 3)",
-        ),
-        17 => refuse(
-            text,
-            input,
-            1,
-            b"wired groups are whole: n is a multiple of r + 1 (refusal 17)",
-        ),
-        _ => refuse_dimension(text, input, code),
-    }
-}
-
-// Puts the sentence of a message that has not k symbols.
-fn refuse_length(text: &mut [u8], symbols: usize, k: u32) -> Written {
-    let mut next = text::put_number(text, 0, (symbols % 4096) as u32);
-    next = text::put(text, next, b" message symbols are refused: k is");
-    next = text::put_spaced(text, next, k);
-    let len = text::put(text, next, b" (refusal 5)");
-    Written { status: 1, len }
+// Writes the sentence of a message that has not k symbols.
+fn refuse_length<W: Write>(output: &mut W, symbols: usize, k: u32) -> Result<Written> {
+    write!(
+        output,
+        "{symbols} message symbols are refused: k is {k} (refusal 5)"
+    )?;
+    Ok(Written::Refusal)
 }
 
 // The place of the first symbol that is 13 or more, or the message's length.
 fn first_large(message: &[u8]) -> usize
     ensures { result ≤ length message.now }
 {
-    for (i, &symbol) in message.iter().enumerate() {
-        if symbol > 12 {
-            return i;
-        }
-    }
-    message.len()
+    message
+        .iter()
+        .position(|symbol| *symbol > 12)
+        .unwrap_or(message.len())
 }
 
-// Puts the sheet of a shape over thirteen and a message, or the sentence of the message's refusal.
-fn put_message(text: &mut [u8], input: &[u8], shape: Shape, message: &[u8]) -> Written
+// Writes the sheet of a shape over thirteen and a message, or the sentence of the message's refusal.
+fn put_message<W: Write>(
+    output: &mut W,
+    words: Words,
+    shape: Shape,
+    message: &[u8],
+) -> Result<Written>
     requires { Decodable shape × (shape.field ≡ 0) × (length message.now ≤ 16) }
 {
     let mut codeword = [0u8; 12];
     let front = &mut codeword[..shape.n as usize];
-    let refusal = encode::encode_with(0, shape, message, front);
-    if refusal == 5 {
-        return refuse_length(text, message.len(), shape.k);
+    match encode::encode_with(Ok(()), shape, message, front) {
+        Ok(()) => {
+            lesson::put_sheet(output, shape, message, front)?;
+            Ok(Written::Sheet)
+        }
+        Err(Refusal::Buffers) => refuse_length(output, message.len(), shape.k),
+        Err(_) => {
+            let i = first_large(message);
+            refuse_at(output, words, 3 + i, "a symbol is from 0 to 12 (refusal 6)")
+        }
     }
-    if refusal != 0 {
-        let i = first_large(message);
-        return refuse(text, input, 3 + i, b"a symbol is from 0 to 12 (refusal 6)");
-    }
-    let len = lesson::put_sheet(text, shape, message, front);
-    Written { status: 0, len }
 }
 
-// The code over thirteen of the numbers r, n and k, and a wiring.
-fn code_of(numbers: &[u8], wiring: u32) -> Code
-    requires { length numbers.now ≡ 16 }
+// The code over thirteen of r, n and k, and a wiring.
+fn code_of(r: u8, n: u8, k: u8, wiring: u32) -> Code
     ensures { result.field ≡ 0 }
 {
     Code {
         field: 0,
-        r: text::wide(numbers[0]),
-        n: text::wide(numbers[1]),
-        k: text::wide(numbers[2]),
+        r: u32::from(r),
+        n: u32::from(n),
+        k: u32::from(k),
         wiring,
     }
 }
 
-// Puts the sheet of the numbers r, n, k and the message, or the sentence of their refusal.
-fn put_numbers(text: &mut [u8], input: &[u8], wiring: u32, numbers: &[u8], count: usize) -> Written
+// Writes the sheet of the first numbers, which are r, n, k and the message, or the sentence of their refusal. As many as count stand in the input.
+fn put_numbers<W: Write>(
+    output: &mut W,
+    words: Words,
+    wiring: u32,
+    numbers: &[u8],
+    count: usize,
+) -> Result<Written>
     requires { (3 ≤ count) × (length numbers.now ≡ 16) }
 {
-    let code = code_of(numbers, wiring);
-    let refusal = acceptance::code_refusal(code);
-    if refusal != 0 {
-        return refuse_code(text, input, code, refusal);
+    let code = code_of(numbers[0], numbers[1], numbers[2], wiring);
+    if let Err(refusal) = acceptance::accepted(code) {
+        return refuse_code(output, words, code, refusal);
     }
-    if count > 16 {
-        return refuse_length(text, count - 3, code.k);
+    match numbers.get(3..count) {
+        Some(message) => put_message(output, words, acceptance::single(code), message),
+        None => refuse_length(output, count - 3, code.k),
     }
-    put_message(text, input, acceptance::single(code), &numbers[3..count])
 }
 
-// Writes the sheet of the numbers of an input in front of the text, or the sentence on what is wrong with them.
-fn put_input(text: &mut [u8], input: &[u8], wiring: u32) -> Written {
-    let count = words::count_words(input);
-    let wrong = words::first_wrong(input, count);
-    if wrong < count {
-        return refuse(
-            text,
-            input,
-            wrong,
-            b"a number is digits 0 to 9, and white space parts numbers",
-        );
+// Writes the sheet of the numbers of an input, or the sentence on what is wrong with them.
+fn put_input<W: Write>(output: &mut W, words: Words, wiring: u32) -> Result<Written> {
+    for (i, word) in words.enumerate() {
+        if !is_decimal(word) {
+            return refuse(
+                output,
+                i,
+                word,
+                "a number is digits 0 to 9, and white space parts numbers",
+            );
+        }
     }
+    let count = words.count();
     if count < 3 {
-        let len = text::put(
-            text,
-            0,
-            b"fewer than three numbers: r, n, k and k message symbols are wanted",
-        );
-        return Written { status: 1, len };
+        output.write_all(b"fewer than three numbers: r, n, k and k message symbols are wanted")?;
+        return Ok(Written::Refusal);
     }
     let mut numbers = [0u8; 16];
-    words::read_numbers(input, count, &mut numbers);
-    put_numbers(text, input, wiring, &numbers, count)
+    for (number, word) in numbers.iter_mut().zip(words) {
+        *number = value_of(word);
+    }
+    put_numbers(output, words, wiring, &numbers, count)
 }
 
-// Writes the sheet of an input in front of the text, or the sentence on what is wrong with it.
-pub fn classroom(input: &[u8], text: &mut [u8]) -> Written {
-    if words::starts_with(input, b"wired") {
-        return put_input(text, words::behind_first(input), 1);
+// Writes the sheet of an input, or the sentence on what is wrong with it. An Err is the output's.
+pub fn classroom<W: Write>(input: &[u8], output: &mut W) -> Result<Written> {
+    let mut words = Words(input);
+    match words.next() {
+        Some(b"wired") => put_input(output, words, 1),
+        _ => put_input(output, Words(input), 0),
     }
-    put_input(text, input, 0)
 }

@@ -3,28 +3,33 @@
 
 ghost use Rattle.std.specs.Prelude.{◌≤◌};
 
-use std::io::{Read, Write};
+use class_sheet::Written;
+use std::io::{Cursor, Read, Write};
 use std::process::ExitCode;
 
 // The exit status of the program on an input that was read: 0 and the sheet, 1 and a sentence, or 2 where writing fails.
 fn answer<W: Write, E: Write>(input: &[u8], output: &mut W, errors: &mut E) -> u8
     ensures { result ≤ 2 }
 {
-    let mut text = [0u8; 4096];
+    let mut room = [0u8; 4095];
+    let mut text = Cursor::new(&mut room[..]);
     let written = class_sheet::classroom(input, &mut text);
-    if written.len >= 4096 {
-        console::complain(
-            errors,
-            b"classroom",
-            b"the sheet is longer than 4,095 bytes",
-        );
-        return 2;
+    let len = text.position() as usize;
+    match written {
+        Ok(Written::Sheet) => console::write_output(output, errors, b"classroom", &room, len),
+        Ok(Written::Refusal) => {
+            console::complain(errors, b"classroom", room.get(..len).unwrap_or(b""));
+            1
+        }
+        Err(_) => {
+            console::complain(
+                errors,
+                b"classroom",
+                b"the sheet is longer than 4,095 bytes",
+            );
+            2
+        }
     }
-    if written.status == 0 {
-        return console::write_output(output, errors, b"classroom", &text, written.len);
-    }
-    console::complain(errors, b"classroom", console::part(&text, 0, written.len));
-    1
 }
 
 // The program's exit status: 0, 1 where the input is refused, or 2 where reading or writing fails.
@@ -36,11 +41,9 @@ pub fn classroom_program<R: Read, W: Write, E: Write>(
     ensures { result ≤ 2 }
 {
     let mut numbers = [0u8; 4097];
-    let read = console::read_input(input, &mut numbers);
-    if read.failed {
+    let Ok(n) = console::read_input(input, &mut numbers) else {
         return console::unread(errors, b"classroom");
-    }
-    let n = read.len;
+    };
     if n > 4096 {
         console::complain(
             errors,

@@ -1,6 +1,5 @@
 -- The questions of encode of strips. Assumes nothing.
 --   short_no, long_no, fit_rest    the tests of the length of a strip, one after another
---   asked_in_turn                  the questions are asked one after another
 --   Passed n s ms b                no refusal n before, strips of one length, and symbols below q
 --   strips_passed                  strips that are not refused have these
 use mathlib.Core.Path.{◌≡◌, refl, sym, ap, ◌∙◌}
@@ -31,17 +30,6 @@ long_no l n b h =
 pub fit_rest : (l n b : ℕ) → 1 ≤ l → l ≤ 4096 → eqb b (n * l) ≡ strips_are l n b
 unfolding strips_are
 fit_rest l n b h k = rw (yes_true (leb 1 l) (le→leb 1 l h)) (rw (yes_true (leb l 4096) (le→leb l 4096 k)) refl)
-
-pub asked_in_turn : (n : ℕ) (s : Shape) (ms : List ℕ) (b x : ℕ)
-    → x ≡ or_ask (or_ask n (ask (strips_are (b / s.n) s.n b) 5 0)) (ask (eqb (length ms) (s.k * (b / s.n))) 5 0)
-    → or_ask x (ask (all_below (q s.field) ms) 6 0) ≡ encode_strips_refusal n s ms b
-unfolding encode_strips_refusal
-asked_in_turn n s ms b x e =
-    let l = b / s.n in
-    let a = strips_are l s.n b in
-    let d = eqb (length ms) (s.k * l) in
-    let six : ℕ = ask (all_below (q s.field) ms) 6 0 in
-    ap (λ y. or_ask y six) e ∙ ask_then (or_ask n (ask a 5 0)) d 4 six ∙ ask_then n a 4 (ask d 5 six) ∙ ap (or_ask n) (ask_and a d 5 six)
 
 pub record Passed (n : ℕ) (s : Shape) (ms : List ℕ) (b : ℕ) : Type 0 where
   pub accepted : n ≡ 0

@@ -8,9 +8,11 @@ ghost use Rattle.code.specs.Family.{single, code_refusal};
 ghost use Rattle.code.specs.Laws.{Plain};
 ghost use Rattle.group_plans.specs.Plan.{ByteCode};
 ghost use Rattle.strip_columns.specs.Strips.{encoded_strips};
+ghost use Rattle.refusal.specs.Refusal.{number_of};
 ghost use Rattle.encode_strips.specs.Strips.{strips_are, encode_strips_refusal, EncodeStripsSays};
 
 use code::{Code, Shape};
+use refusal::{Refusal, require};
 
 // Whether so many symbols are n strips of l, with l from 1 to 4,096.
 pub fn strips_are(l: usize, n: usize, length: usize) -> bool
@@ -27,25 +29,25 @@ pub fn strips_are(l: usize, n: usize, length: usize) -> bool
     length == n * l
 }
 
-// Questions 5 and 6 after the refusal of those before; length is that of the codewords' buffer.
-fn strips_refusal(refusal: u32, shape: Shape, messages: &[u8], length: usize) -> u32
-    requires { refusal ≡ 0 → Plain shape }
-    ensures { result ≡ encode_strips_refusal refusal shape messages.now length }
+// Questions 5 and 6 after those before; length is that of the codewords' buffer.
+#[tactic(auto, using(refusal::proofs::Refusals::chain), unfolding(code::specs::Question::ask, code::specs::Question::or_ask, crate::specs::Strips::encode_strips_refusal))]
+fn strips_asked(
+    asked: Result<(), Refusal>,
+    shape: Shape,
+    messages: &[u8],
+    length: usize,
+) -> Result<(), Refusal>
+    requires { number_of asked ≡ 0 → Plain shape }
+    ensures { number_of result ≡ encode_strips_refusal (number_of asked) shape messages.now length }
 {
-    if refusal != 0 {
-        return refusal;
-    }
+    asked?;
     let n = shape.n as usize;
     let l = length / n;
-    let a = questions::ask(refusal, strips_are(l, n, length), 5);
-    let b = questions::ask(a, messages.len() == shape.k as usize * l, 5);
-    if b != 0 {
-        return b;
-    }
-    questions::ask(
-        b,
+    require(strips_are(l, n, length), Refusal::Buffers)?;
+    require(messages.len() == shape.k as usize * l, Refusal::Buffers)?;
+    require(
         questions::strips_below(messages, tables::order(shape.field)),
-        6,
+        Refusal::Symbol,
     )
 }
 
@@ -124,26 +126,29 @@ fn write_strips(shape: Shape, messages: &[u8], l: usize, codewords: &mut [u8])
     encode_tiles::write_tiles(shape, messages, l, codewords);
 }
 
-// Encodes strips for any plain family after the refusal of the questions on its numbers.
-pub fn encode_strips_with(refusal: u32, shape: Shape, messages: &[u8], codewords: &mut [u8]) -> u32
-    requires { refusal ≡ 0 → Plain shape }
-    ensures { EncodeStripsSays refusal shape messages.now result codewords.old codewords.new }
+// Encodes strips for any plain family after the questions on its numbers.
+#[tactic(auto, using(refusal::proofs::Refusals::chain), unfolding(crate::specs::Strips::EncodeStripsSays))]
+pub fn encode_strips_with(
+    asked: Result<(), Refusal>,
+    shape: Shape,
+    messages: &[u8],
+    codewords: &mut [u8],
+) -> Result<(), Refusal>
+    requires { number_of asked ≡ 0 → Plain shape }
+    ensures { EncodeStripsSays (number_of asked) shape messages.now (number_of result) codewords.old codewords.new }
 {
-    let refused = strips_refusal(refusal, shape, messages, codewords.len());
-    if refused != 0 {
-        return refused;
-    }
+    strips_asked(asked, shape, messages, codewords.len())?;
     let l = codewords.len() / shape.n as usize;
     write_strips(shape, messages, l, codewords);
-    0
+    Ok(())
 }
 
 // Encodes k strips of messages into n strips of codewords: column c of these is encode of column c of those.
-pub fn encode_strips(code: Code, messages: &[u8], codewords: &mut [u8]) -> u32
-    ensures { EncodeStripsSays (code_refusal code) (single code) messages.now result codewords.old codewords.new }
+pub fn encode_strips(code: Code, messages: &[u8], codewords: &mut [u8]) -> Result<(), Refusal>
+    ensures { EncodeStripsSays (code_refusal code) (single code) messages.now (number_of result) codewords.old codewords.new }
 {
     encode_strips_with(
-        acceptance::code_refusal(code),
+        acceptance::accepted(code),
         acceptance::single(code),
         messages,
         codewords,

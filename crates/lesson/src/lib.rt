@@ -6,154 +6,112 @@ ghost use Rattle.code.specs.Laws.{Placed, Mending};
 ghost use Rattle.code.specs.Shape.{size, groups};
 
 use code::Shape;
-use console::text::{end_line, put, put_all, put_number, put_spaced, wide};
+use std::io::{Result, Write};
 
-// Puts a name and a number.
-fn put_named(text: &mut [u8], at: usize, name: &[u8], n: u32) -> usize {
-    let next = put(text, at, name);
-    put_spaced(text, next, n)
-}
-
-// A name, and the exponent that it is raised to.
-fn put_power(text: &mut [u8], at: usize, name: &[u8], e: u32) -> usize {
-    let next = put(text, at, name);
-    put_number(text, next, e)
+// Bytes as numbers, each behind a space.
+fn put_all<W: Write>(output: &mut W, bytes: &[u8]) -> Result<()> {
+    for b in bytes {
+        write!(output, " {b}")?;
+    }
+    Ok(())
 }
 
 // The twelve powers of 2.
-fn put_powers(text: &mut [u8], at: usize) -> usize {
-    let mut next = at;
-    for e in 0..12 {
-        next = put_spaced(text, next, wide(tables::generator_power(0, e)));
+fn put_powers<W: Write>(output: &mut W) -> Result<()> {
+    for e in 0..12u32 {
+        write!(output, " {}", tables::generator_power(0, e))?;
     }
-    next
+    Ok(())
 }
 
 // The points of a group's members from one up to another.
-fn put_points(text: &mut [u8], at: usize, shape: Shape, group: u32, from: u32, to: u32) -> usize
+fn put_points<W: Write>(output: &mut W, shape: Shape, group: u32, from: u32, to: u32) -> Result<()>
     requires { Placed shape × (group < groups shape) × (to ≤ size shape) }
 {
     let powers = tables::power_table();
-    let mut next = at;
     for i in from..to {
-        next = put_spaced(text, next, wide(layout::point_at(shape, group, i, &powers)));
+        write!(output, " {}", layout::point_at(shape, group, i, &powers))?;
     }
-    next
-}
-
-// The slots of a group.
-fn put_group_slots(text: &mut [u8], at: usize, shape: Shape, group: u32) -> usize
-    requires { Placed shape × (group < groups shape) }
-{
-    let members = layout::members_of(shape, group);
-    let mut next = at;
-    for i in 0..members {
-        next = put_spaced(text, next, layout::slot_at(shape, group, i));
-    }
-    next
+    Ok(())
 }
 
 // The slots of a group by name, under wiring 1 alone: under wiring 0 they are in order.
-fn put_spread(text: &mut [u8], at: usize, shape: Shape, group: u32) -> usize
+fn put_spread<W: Write>(output: &mut W, shape: Shape, group: u32) -> Result<()>
     requires { Placed shape × (group < groups shape) }
 {
-    if shape.wiring != 1 {
-        return at;
+    if shape.wiring == 1 {
+        output.write_all(b" slots")?;
+        let members = layout::members_of(shape, group);
+        for i in 0..members {
+            write!(output, " {}", layout::slot_at(shape, group, i))?;
+        }
     }
-    let next = put(text, at, b" slots");
-    put_group_slots(text, next, shape, group)
-}
-
-// The points in slot order.
-fn put_slot_points(text: &mut [u8], at: usize, shape: Shape) -> usize
-    requires { Placed shape }
-{
-    let powers = tables::power_table();
-    let mut next = at;
-    for slot in 0..shape.n {
-        next = put_spaced(text, next, wide(layout::point_of(shape, slot, &powers)));
-    }
-    next
+    Ok(())
 }
 
 // The line of the points along the slots, under wiring 1 alone: under wiring 0 the groups' lines have that order.
-fn put_along(text: &mut [u8], at: usize, shape: Shape) -> usize
+fn put_along<W: Write>(output: &mut W, shape: Shape) -> Result<()>
     requires { Placed shape }
 {
-    if shape.wiring != 1 {
-        return at;
+    if shape.wiring == 1 {
+        output.write_all(b"points")?;
+        let powers = tables::power_table();
+        for slot in 0..shape.n {
+            write!(output, " {}", layout::point_of(shape, slot, &powers))?;
+        }
+        output.write_all(b"\n")?;
     }
-    let mut next = put(text, at, b"points");
-    next = put_slot_points(text, next, shape);
-    end_line(text, next)
+    Ok(())
 }
 
 // The points of a group's slots, and of a short group the word missing and its missing points.
-fn put_group_points(text: &mut [u8], at: usize, shape: Shape, group: u32) -> usize
+fn put_group_points<W: Write>(output: &mut W, shape: Shape, group: u32) -> Result<()>
     requires { Placed shape × (group < groups shape) }
 {
     let members = layout::members_of(shape, group);
     let size = layout::size_of(shape);
-    let mut next = put(text, at, b" points");
-    next = put_points(text, next, shape, group, 0, members);
-    if members == size {
-        return next;
+    output.write_all(b" points")?;
+    put_points(output, shape, group, 0, members)?;
+    if members < size {
+        output.write_all(b" missing")?;
+        put_points(output, shape, group, members, size)?;
     }
-    next = put(text, next, b" missing");
-    put_points(text, next, shape, group, members, size)
-}
-
-// The line of a group.
-fn put_group(text: &mut [u8], at: usize, shape: Shape, group: u32) -> usize
-    requires { Placed shape × (group < groups shape) }
-{
-    let mut next = put_named(text, at, b"group", group);
-    next = put_spread(text, next, shape, group);
-    next = put_group_points(text, next, shape, group);
-    end_line(text, next)
+    Ok(())
 }
 
 // A line for each group.
-fn put_groups(text: &mut [u8], at: usize, shape: Shape) -> usize
+fn put_groups<W: Write>(output: &mut W, shape: Shape) -> Result<()>
     requires { Placed shape }
 {
     let groups = layout::groups_of(shape);
-    let mut next = at;
     for group in 0..groups {
-        next = put_group(text, next, shape, group);
+        write!(output, "group {group}")?;
+        put_spread(output, shape, group)?;
+        put_group_points(output, shape, group)?;
+        output.write_all(b"\n")?;
     }
-    next
+    Ok(())
 }
 
-// The factors of h, one for each missing point.
-fn put_factors(text: &mut [u8], at: usize, shape: Shape) -> usize
-    requires { Placed shape }
-{
-    let powers = tables::power_table();
-    let room = layout::room_of(shape);
-    let mut next = at;
-    for place in shape.n..room {
-        next = put(text, next, b" (x -");
-        next = put_spaced(text, next, wide(layout::point_of(shape, place, &powers)));
-        next = put(text, next, b")");
-    }
-    next
-}
-
-// The lines of g and h, of a code whose last group is short alone.
-fn put_g_and_h(text: &mut [u8], at: usize, shape: Shape) -> usize
+// The lines of g and h, of a code whose last group is short alone. The factors of h are one for each missing point.
+fn put_g_and_h<W: Write>(output: &mut W, shape: Shape) -> Result<()>
     requires { Placed shape }
 {
     if layout::missing_of(shape) == 0 {
-        return at;
+        return Ok(());
     }
     let powers = tables::power_table();
-    let mut next = put_power(text, at, b"g x^", layout::size_of(shape));
-    next = put(text, next, b" -");
-    next = put_spaced(text, next, wide(layout::constant_of(shape, &powers)));
-    next = put(text, next, b"\nh");
-    next = put_factors(text, next, shape);
-    end_line(text, next)
+    let room = layout::room_of(shape);
+    write!(
+        output,
+        "g x^{} - {}\nh",
+        layout::size_of(shape),
+        layout::constant_of(shape, &powers)
+    )?;
+    for place in shape.n..room {
+        write!(output, " (x - {})", layout::point_of(shape, place, &powers))?;
+    }
+    output.write_all(b"\n")
 }
 
 // The exponent of message symbol m of a code of whole groups.
@@ -163,122 +121,113 @@ fn exponent(shape: Shape, m: u32) -> u32
     m + shape.tolerance * (m / shape.r)
 }
 
-// The exponent of g where message symbol m of a code whose last group is short goes with a power of it.
-fn good_exponent(r: u32, m: u32) -> u32
-    requires { (1 ≤ r) × (m < 16) }
-{
-    1 + m / r
-}
-
 // What message symbol m of a code whose last group is short goes with: for the first filled - r symbols a power of g and one of x, for the
 // others h and a power of x. As many as filled are the message symbols and the missing points together.
-fn put_short_basis(text: &mut [u8], at: usize, r: u32, filled: u32, m: u32) -> usize
+fn put_short_basis<W: Write>(output: &mut W, r: u32, filled: u32, m: u32) -> Result<()>
     requires { (1 ≤ r) × (r ≤ 16) × (m < 16) }
 {
     if m + r < filled {
-        let next = put_power(text, at, b" g^", good_exponent(r, m));
-        return put_power(text, next, b" x^", m % r);
+        write!(output, " g^{} x^{}", 1 + m / r, m % r)
+    } else {
+        write!(output, " h x^{}", m + r - filled)
     }
-    let next = put(text, at, b" h");
-    put_power(text, next, b" x^", m + r - filled)
 }
 
 // What message symbol m goes with.
-fn put_basis(text: &mut [u8], at: usize, shape: Shape, filled: u32, m: u32) -> usize
+fn put_basis<W: Write>(output: &mut W, shape: Shape, filled: u32, m: u32) -> Result<()>
     requires { Placed shape × (m < 16) }
 {
     if layout::missing_of(shape) == 0 {
-        return put_power(text, at, b" x^", exponent(shape, m));
+        write!(output, " x^{}", exponent(shape, m))
+    } else {
+        put_short_basis(output, shape.r, filled, m)
     }
-    put_short_basis(text, at, shape.r, filled, m)
 }
 
 // The encoding polynomial.
-fn put_polynomial(text: &mut [u8], at: usize, shape: Shape, message: &[u8]) -> usize
+fn put_polynomial<W: Write>(output: &mut W, shape: Shape, message: &[u8]) -> Result<()>
     requires { Placed shape × (length message.now ≤ 16) }
 {
     let filled = message.len() as u32 + layout::missing_of(shape);
-    let mut next = at;
-    for (m, &symbol) in message.iter().enumerate() {
-        next = put_spaced(text, next, wide(symbol));
-        next = put_basis(text, next, shape, filled, m as u32);
+    for (m, symbol) in message.iter().enumerate() {
+        write!(output, " {symbol}")?;
+        put_basis(output, shape, filled, m as u32)?;
     }
-    next
+    Ok(())
 }
 
 // The mates of a slot.
-fn put_mates(text: &mut [u8], at: usize, shape: Shape, slot: u32) -> usize
+fn put_mates<W: Write>(output: &mut W, shape: Shape, slot: u32) -> Result<()>
     requires { Mending shape × (slot < shape.n) }
 {
     let number = layout::mates_number(shape, slot);
-    let mut next = at;
     for i in 0..number {
-        next = put_spaced(text, next, layout::mate_of(shape, slot, i));
+        write!(output, " {}", layout::mate_of(shape, slot, i))?;
     }
-    next
+    Ok(())
 }
 
 // The repair weights of a slot.
-fn put_weights(text: &mut [u8], at: usize, shape: Shape, slot: u32) -> usize
-    requires { Mending shape }
-{
-    let answer = weights::weights_with(0, shape, slot);
-    let weights = answer.weights;
-    let number = layout::mates_number(shape, slot) as usize;
-    put_all(text, at, console::part(&weights, 0, number))
-}
-
-// The line of a slot.
-fn put_slot(text: &mut [u8], at: usize, shape: Shape, slot: u32) -> usize
+fn put_weights<W: Write>(output: &mut W, shape: Shape, slot: u32) -> Result<()>
     requires { Mending shape × (slot < shape.n) }
 {
-    let mut next = put_named(text, at, b"slot", slot);
-    next = put(text, next, b" mates");
-    next = put_mates(text, next, shape, slot);
-    next = put(text, next, b" weights");
-    next = put_weights(text, next, shape, slot);
-    end_line(text, next)
+    let weights = weights::weights_of(shape, slot);
+    let number = layout::mates_number(shape, slot) as usize;
+    put_all(output, &weights[..number])
 }
 
 // A line for each slot.
-fn put_slots(text: &mut [u8], at: usize, shape: Shape) -> usize
+fn put_slots<W: Write>(output: &mut W, shape: Shape) -> Result<()>
     requires { Mending shape }
 {
-    let mut next = at;
     for slot in 0..shape.n {
-        next = put_slot(text, next, shape, slot);
+        write!(output, "slot {slot} mates")?;
+        put_mates(output, shape, slot)?;
+        output.write_all(b" weights")?;
+        put_weights(output, shape, slot)?;
+        output.write_all(b"\n")?;
     }
-    next
+    Ok(())
 }
 
 // The lines of the powers, of the groups, of the points, and of g and h.
-fn put_layout(text: &mut [u8], shape: Shape) -> usize
+fn put_layout<W: Write>(output: &mut W, shape: Shape) -> Result<()>
     requires { Placed shape }
 {
-    let mut next = put(text, 0, b"powers");
-    next = put_powers(text, next);
-    next = end_line(text, next);
-    next = put_groups(text, next, shape);
-    next = put_along(text, next, shape);
-    put_g_and_h(text, next, shape)
+    output.write_all(b"powers")?;
+    put_powers(output)?;
+    output.write_all(b"\n")?;
+    put_groups(output, shape)?;
+    put_along(output, shape)?;
+    put_g_and_h(output, shape)
 }
 
 // The lines of a message's encoding polynomial and of its codeword.
-fn put_encoding(text: &mut [u8], at: usize, shape: Shape, message: &[u8], codeword: &[u8]) -> usize
+fn put_encoding<W: Write>(
+    output: &mut W,
+    shape: Shape,
+    message: &[u8],
+    codeword: &[u8],
+) -> Result<()>
     requires { Placed shape × (length message.now ≤ 16) }
 {
-    let mut next = put(text, at, b"polynomial");
-    next = put_polynomial(text, next, shape, message);
-    next = put(text, next, b"\ncodeword");
-    next = put_all(text, next, codeword);
-    end_line(text, next)
+    output.write_all(b"polynomial")?;
+    put_polynomial(output, shape, message)?;
+    output.write_all(b"\ncodeword")?;
+    put_all(output, codeword)?;
+    output.write_all(b"\n")
 }
 
 // The sheet of a shape, a message and its codeword.
-pub fn put_sheet(text: &mut [u8], shape: Shape, message: &[u8], codeword: &[u8]) -> usize
+pub fn put_sheet<W: Write>(
+    output: &mut W,
+    shape: Shape,
+    message: &[u8],
+    codeword: &[u8],
+) -> Result<()>
     requires { Mending shape × (length message.now ≤ 16) }
 {
-    let mut next = put_layout(text, shape);
-    next = put_encoding(text, next, shape, message, codeword);
-    put_slots(text, next, shape)
+    put_layout(output, shape)?;
+    put_encoding(output, shape, message, codeword)?;
+    put_slots(output, shape)
 }

@@ -5,10 +5,12 @@ ghost use Rattle.std.specs.Prelude.{◌≡◌, ◌<◌, length};
 ghost use Rattle.code.specs.Shape.{groups};
 ghost use Rattle.code.specs.Family.{single, code_refusal};
 ghost use Rattle.code.specs.Laws.{Mending, Decodable};
+ghost use Rattle.refusal.specs.Refusal.{number_of, answer_of};
 ghost use Rattle.pass.specs.Pass.{reads_below, pass_refusal, PassSays};
 ghost use Rattle.pass.specs.Step.{group_reads_below};
 
-use code::{Answer, Code, Shape};
+use code::{Code, Shape};
+use refusal::{Refusal, require};
 
 // Whether every symbol that the pass reads of a group is below q.
 fn group_below(shape: Shape, group: u32, word: &[u8], marks: &[u8]) -> bool
@@ -32,58 +34,55 @@ fn pass_below(shape: Shape, word: &[u8], marks: &[u8]) -> bool
     ensures { result ≡ reads_below shape word.now marks.now }
 {
     let groups = layout::groups_of(shape);
-    let mut j: u32 = 0;
-    while j < groups {
+    for j in 0..groups {
         if !group_below(shape, j, word, marks) {
             return false;
         }
-        j += 1;
     }
     true
 }
 
-// The refusal of the local pass, or 0.
-fn pass_refusal(refusal: u32, shape: Shape, word: &[u8], marks: &[u8]) -> u32
-    requires { refusal ≡ 0 → Mending shape }
-    ensures { result ≡ pass_refusal refusal shape word.now marks.now }
+// The questions of the local pass.
+#[tactic(auto, using(refusal::proofs::Refusals::chain), unfolding(code::specs::Question::ask, code::specs::Question::or_ask, crate::specs::Pass::pass_refusal))]
+fn pass_asked(
+    asked: Result<(), Refusal>,
+    shape: Shape,
+    word: &[u8],
+    marks: &[u8],
+) -> Result<(), Refusal>
+    requires { number_of asked ≡ 0 → Mending shape }
+    ensures { number_of result ≡ pass_refusal (number_of asked) shape word.now marks.now }
 {
-    let a = questions::ask(refusal, word.len() == shape.n as usize, 5);
-    let b = questions::ask(a, marks.len() == shape.n as usize, 5);
-    if b != 0 {
-        return b;
-    }
-    let c = questions::ask(b, questions::all_below(marks, 2), 8);
-    questions::ask(c, pass_below(shape, word, marks), 6)
+    asked?;
+    let n = shape.n as usize;
+    require(word.len() == n && marks.len() == n, Refusal::Buffers)?;
+    require(questions::all_below(marks, 2), Refusal::Mark)?;
+    require(pass_below(shape, word, marks), Refusal::Symbol)
 }
 
 // The local pass over any shape whose groups stand one loss.
-pub fn local_pass_with(refusal: u32, shape: Shape, word: &mut [u8], marks: &mut [u8]) -> Answer
-    requires { refusal ≡ 0 → Decodable shape }
-    ensures { PassSays refusal shape word.old marks.old result word.new marks.new }
+#[tactic(auto, using(refusal::proofs::Refusals::chain, crate::proofs::Refusals::pass_passed))]
+pub fn local_pass_with(
+    asked: Result<(), Refusal>,
+    shape: Shape,
+    word: &mut [u8],
+    marks: &mut [u8],
+) -> Result<u32, Refusal>
+    requires { number_of asked ≡ 0 → Decodable shape }
+    ensures { PassSays (number_of asked) shape word.old marks.old (answer_of result) word.new marks.new }
 {
-    let refused = pass_refusal(refusal, shape, word, marks);
-    let stops = refused != 0;
-    if stops {
-        return Answer {
-            refusal: refused,
-            value: 0,
-        };
-    }
+    pass_asked(asked, shape, word, marks)?;
     let powers = tables::power_table();
     let logs = tables::log_table();
-    let number = mending::mend_groups(shape, word, marks, &powers, &logs);
-    Answer {
-        refusal: 0,
-        value: number,
-    }
+    Ok(mending::mend_groups(shape, word, marks, &powers, &logs))
 }
 
 // Repairs each group with exactly one loss in its own slots of the word, and unmarks it; leaves it where no codeword has its kept symbols.
-pub fn local_pass(code: Code, word: &mut [u8], marks: &mut [u8]) -> Answer
-    ensures { PassSays (code_refusal code) (single code) word.old marks.old result word.new marks.new }
+pub fn local_pass(code: Code, word: &mut [u8], marks: &mut [u8]) -> Result<u32, Refusal>
+    ensures { PassSays (code_refusal code) (single code) word.old marks.old (answer_of result) word.new marks.new }
 {
     local_pass_with(
-        acceptance::code_refusal(code),
+        acceptance::accepted(code),
         acceptance::single(code),
         word,
         marks,

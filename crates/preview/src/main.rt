@@ -19,11 +19,9 @@ pub fn preview_program<R: Read, W: Write, E: Write>(
     ensures written { result ≡ 0 → IfSome (R.remaining input.old) (λ xs. Appends (W.contents output.old) (W.contents output.new) (preview_text (take 1032 xs))) }
 {
     let mut sheet = [0u8; 1032];
-    let read = console::read_input(input, &mut sheet);
-    if read.failed {
+    let Ok(n) = console::read_input(input, &mut sheet) else {
         return console::unread(errors, b"preview");
-    }
-    let n = read.len;
+    };
     let mut text = [0u8; 8420];
     let answer = preview_sheet::preview_sheet(&sheet[..n], &mut text);
     console::write_output(output, errors, b"preview", &text, answer.value as usize)

@@ -18,11 +18,9 @@ pub fn report_program<R: Read, W: Write, E: Write>(
     ensures written { result ≡ 0 → IfSome (R.remaining input.old) (λ xs. (bs : List ℕ) × Report (take 1032 xs) bs × Appends (W.contents output.old) (W.contents output.new) bs) }
 {
     let mut sheet = [0u8; 1032];
-    let read = console::read_input(input, &mut sheet);
-    if read.failed {
+    let Ok(n) = console::read_input(input, &mut sheet) else {
         return console::unread(errors, b"report");
-    }
-    let n = read.len;
+    };
     let mut text = [0u8; 1032];
     let answer = reporting::report(&sheet[..n], &mut text);
     console::write_output(output, errors, b"report", &text, answer.value as usize)

@@ -2,19 +2,18 @@
 --   GoodSheet s, good_sheet, read_good    the facts of an accepted sheet
 --   small_code                the fields of a code word hold an accepted code
 --   kept_is                   question 6, asked of the words
---   read_stops, read_done     the ways the reader ends
+--   read_done                 the reader ends with a code
 --   GoodStripe, good_stripe  the facts of a stripe that the writer accepts
 --   sheet_passes, stripe_passes    the questions are passed where the facts hold
 --   enough                    buffers with room leave the questions on the sheet
 use mathlib.Core.Path.{◌≡◌, refl, sym, ap, ap₂, ◌∙◌}
-use mathlib.Core.Logic.{◌≢◌}
 use mathlib.Core.Bool.{Bool, true, false, cond, ◌&&◌, ◌||◌}
 use mathlib.Core.List.{List, ◌++◌}
 use Prim.Native.Nat.{ℕ, ◌+◌, ◌*◌, ◌/◌, ◌%◌, ◌≤◌}
 use native.Mathlib.Omega.{arith}
 use lib.Dec.{T, leb, eqb, ltb, eqb→eq, le→leb, leb→le}
 use lib.ListN.{length, drop}
-use borrow.Author.Tests.{lt-ltb, le-leb, eq-eqb, ne_eqb}
+use borrow.Author.Tests.{lt-ltb, le-leb, eq-eqb}
 use Rattle.algebra.specs.Sequence.{at, every, all_below}
 use Rattle.algebra.proofs.Booleans.{so, yes_true, and_left, and_right, and_both}
 use Rattle.algebra.proofs.Tabulate.{at_tabulate}
@@ -27,10 +26,10 @@ use Rattle.code.specs.Decoding.{lost}
 use Rattle.code.specs.Erasure.{kept_below}
 use Rattle.code.specs.declared.Code.{Code}
 use Rattle.code.proofs.Questions.{asked, ask_yes, or_ask_on, or_ask_passed}
-use Rattle.code.proofs.Answers.{fills_no, fills_yes}
+use Rattle.code.proofs.Answers.{fills_yes}
 use Rattle.code.proofs.Accepted.{wiring_of, plain_of}
 use Rattle.code.proofs.Bounds.{r_most, n_most, k_most}
-use Rattle.sheet.specs.declared.Sheet.{Sheet}
+use Rattle.sheet.specs.Calls.{Sheet}
 use Rattle.words.specs.Word.{word_at, kind, end_word, slot_fits, word_symbol, word_mark}
 use Rattle.words.specs.Step.{Narrow}
 use Rattle.sheet.specs.Sheet.{middle_word, code_in, symbols_in, marks_in}
@@ -109,16 +108,6 @@ small_code c e =
 
 -- what the reader leaves behind
 module _ (s a d : List ℕ) (x : Sheet) where
-  pub read_stops : (m : ℕ) → m ≡ read_refusal s (length a) (length d) → m ≢ 0 → (x.refusal ≡ m) × (x.code ≡ no_code) → ReadSays s a a d d x
-  read_stops m e h r =
-      let n : ℕ = read_refusal s (length a) (length d) in
-      let i : x.refusal ≢ 0 = λ z. h (sym r.0 ∙ z) in
-      record {
-        code = r.1 ∙ sym (ap (λ b. cond b (code_in s) no_code) (ne_eqb n 0 (λ z. h (e ∙ z))));
-        word = fills_no n (symbols_in s ++ drop (code_in s).n a) x.refusal a a (r.0 ∙ e) i refl;
-        marks = fills_no n (marks_in s ++ drop (code_in s).n d) x.refusal d d (r.0 ∙ e) i refl;
-      }
-
   pub read_done : (b e : List ℕ) → 0 ≡ read_refusal s (length a) (length d) → x.refusal ≡ 0 → x.code ≡ code_in s
       → b ≡ symbols_in s ++ drop (code_in s).n a → e ≡ marks_in s ++ drop (code_in s).n d → ReadSays s a b d e x
   read_done b e z r c w m =

@@ -17,7 +17,7 @@ use Rattle.code.proofs.Bounds.{n_most, k_most}
 use Rattle.words.specs.Word.{word_symbol, word_mark}
 use Rattle.sheet.specs.Sheet.{middle_word, code_in, symbols_in, marks_in}
 use Rattle.sheet.specs.Calls.{sheet_refusal, read_refusal, no_code, ReadSays}
-use Rattle.sheet.specs.declared.Sheet.{Sheet}
+use Rattle.sheet.specs.Calls.{Sheet}
 use Rattle.sheet.proofs.Accepted.{good_sheet, enough}
 
 pub record Told (s b e : List ℕ) (x : Sheet) : Type 0 where

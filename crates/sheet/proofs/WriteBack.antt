@@ -12,7 +12,6 @@ use lib.Dec.{T, eqb}
 use lib.ListN.{length}
 use Rattle.algebra.specs.Sequence.{at, tabulate, all_below}
 use Rattle.algebra.proofs.Booleans.{so}
-use Rattle.algebra.proofs.Equality.{same}
 use Rattle.algebra.proofs.Tabulate.{length_tabulate, at_tabulate, tabulate_is, tabulate_same}
 use Rattle.algebra.proofs.Every.{every_at}
 use Rattle.algebra.proofs.Below.{all_below_intro}

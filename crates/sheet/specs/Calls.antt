@@ -3,15 +3,17 @@
 --   read_refusal s a b               == the reader's questions, for buffers of a and b bytes
 --   write_refusal c ws ms l          == the writer's, for a sheet of l bytes
 --   no_code                          == the code of a refused sheet: five zeros
+--   Sheet, sheet_answer r            == a refusal number and a code: 0 and the code that is read, or the refusal and no code
 --   ReadSays, WriteSays            == the answer, and every byte of every buffer
-use Rattle.std.specs.Prelude.{◌≡◌, cond, ◌&&◌, List, ◌++◌, ℕ, ◌+◌, ◌*◌, ◌/◌, ◌%◌, leb, eqb, length, drop}
+use Rattle.std.specs.Prelude.{◌≡◌, cond, ◌&&◌, Result, Ok, Err, List, ◌++◌, ℕ, ◌+◌, ◌*◌, ◌/◌, ◌%◌, leb, eqb, length, drop}
 use Rattle.algebra.specs.Sequence.{every, all_below}
 use Rattle.code.specs.Question.{ask, or_ask}
 use Rattle.code.specs.Family.{single, code_refusal}
 use Rattle.code.specs.Answer.{Fills}
 use Rattle.code.specs.Erasure.{kept_below}
 use Rattle.code.specs.declared.Code.{Code}
-use Rattle.sheet.specs.declared.Sheet.{Sheet}
+use Rattle.refusal.specs.Refusal.{number}
+use Rattle.refusal.specs.declared.Refusal.{Refusal}
 use Rattle.words.specs.Word.{word_at, kind, end_word, slot_fits}
 use Rattle.sheet.specs.Sheet.{middle_word, sheet_of, code_in, symbols_in, marks_in}
 
@@ -41,6 +43,14 @@ write_refusal c ws ms l =
 
 unfoldable pub no_code : Code
 no_code = record { field = 0; r = 0; n = 0; k = 0; wiring = 0 }
+
+pub record Sheet : Type 0 where
+  pub refusal : ℕ
+  pub code : Code
+
+abbrev pub sheet_answer : Result Code Refusal → Sheet
+sheet_answer (Ok c) = record { refusal = 0; code = c }
+sheet_answer (Err e) = record { refusal = number e; code = no_code }
 
 -- the first n bytes of both buffers are written; a and d are the buffers before, b and e after
 pub record ReadSays (s a b d e : List ℕ) (x : Sheet) : Type 0 where

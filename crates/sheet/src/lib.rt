@@ -4,19 +4,14 @@
 ghost use Rattle.std.specs.Prelude.{◌≡◌, ◌++◌, ◌+◌, ◌*◌, ◌≤◌, ◌<◌, ltb, length, drop};
 ghost use Rattle.algebra.specs.Sequence.{every, tabulate};
 ghost use Rattle.code.specs.Family.{code_refusal};
+ghost use Rattle.refusal.specs.Refusal.{number_of};
 ghost use Rattle.words.specs.Word.{slot_fits, word_symbol, word_mark};
 ghost use Rattle.sheet.specs.Sheet.{middle_word, code_in, sheet_of};
-ghost use Rattle.sheet.specs.Calls.{body_refusal, sheet_refusal, read_refusal, write_refusal, no_code, ReadSays, WriteSays};
+ghost use Rattle.sheet.specs.Calls.{body_refusal, sheet_refusal, read_refusal, write_refusal, sheet_answer, ReadSays, WriteSays};
 ghost use Rattle.sheet.specs.Step.{put_slots};
 
 use code::Code;
-
-// The code of a sheet, or the refusal of it.
-#[derive(Clone, Copy)]
-pub struct Sheet {
-    pub refusal: u32,
-    pub code: Code,
-}
+use refusal::{Refusal, require};
 
 // Does each of the n middle words stand for its slot?
 fn slots_fit(sheet: &[u8], n: u32) -> bool
@@ -65,99 +60,70 @@ fn fill(sheet: &[u8], n: usize, word: &mut [u8], marks: &mut [u8])
     }
 }
 
-// The refusal of questions 13, 14, 6 and 15 of a sheet with this code, or 0.
-fn body_refusal(code: Code, sheet: &[u8]) -> u32
+// Questions 13, 14, 6 and 15 of a sheet with this code.
+#[tactic(auto, using(refusal::proofs::Refusals::chain), unfolding(code::specs::Question::ask, code::specs::Question::or_ask, crate::specs::Calls::body_refusal))]
+fn body_asked(code: Code, sheet: &[u8]) -> Result<(), Refusal>
     requires { (code ≡ code_in sheet.now) × (code.n < 256) }
-    ensures { result ≡ body_refusal code sheet.now }
+    ensures { number_of result ≡ body_refusal code sheet.now }
 {
     let n = code.n;
-    if sheet.len() / 4 != n as usize + 2 {
-        return 13;
-    }
-    let a = questions::ask(0, slots_fit(sheet, n), 14);
-    let b = questions::ask(a, symbols_fit(sheet, n, tables::order(code.field)), 6);
+    require(sheet.len() / 4 == n as usize + 2, Refusal::WordCount)?;
+    require(slots_fit(sheet, n), Refusal::MiddleWord)?;
+    let kept = symbols_fit(sheet, n, tables::order(code.field));
+    require(kept, Refusal::Symbol)?;
     let last = words::word_at(sheet, n as usize + 1);
-    questions::ask(b, last == words::end_word(n), 15)
+    require(last == words::end_word(n), Refusal::LastWord)
 }
 
-// The refusal of a sheet's bytes, or 0.
-fn sheet_refusal(sheet: &[u8]) -> u32
-    ensures { result ≡ sheet_refusal sheet.now }
+// The questions on a sheet's bytes.
+#[tactic(auto, using(refusal::proofs::Refusals::chain), unfolding(code::specs::Question::ask, code::specs::Question::or_ask, crate::specs::Sheet::code_in, crate::specs::Calls::sheet_refusal))]
+fn sheet_asked(sheet: &[u8]) -> Result<(), Refusal>
+    ensures { number_of result ≡ sheet_refusal sheet.now }
 {
-    let a = questions::ask(0, sheet.len() % 4 == 0, 11);
-    let b = questions::ask(a, sheet.len() / 4 >= 1, 12);
-    if b != 0 {
-        return b;
-    }
+    require(sheet.len() % 4 == 0, Refusal::SheetLength)?;
+    require(sheet.len() / 4 >= 1, Refusal::FirstWord)?;
     let w = words::word_at(sheet, 0);
-    let c = questions::ask(b, words::kind_of(w) == 1, 12);
-    if c != 0 {
-        return c;
-    }
+    require(words::kind_of(w) == 1, Refusal::FirstWord)?;
     let code = words::word_code(w);
-    let d = acceptance::code_refusal(code);
-    if d != 0 {
-        return d;
-    }
-    body_refusal(code, sheet)
+    acceptance::accepted(code)?;
+    body_asked(code, sheet)
 }
 
-// The reader's refusal, or 0, for buffers of so many bytes.
-fn read_refusal(sheet: &[u8], word: usize, marks: usize) -> u32
-    ensures { result ≡ read_refusal sheet.now word marks }
+// The reader's questions, for buffers of so many bytes.
+#[tactic(auto, using(refusal::proofs::Refusals::chain), unfolding(code::specs::Question::ask, code::specs::Question::or_ask, crate::specs::Calls::read_refusal))]
+fn read_asked(sheet: &[u8], word: usize, marks: usize) -> Result<(), Refusal>
+    ensures { number_of result ≡ read_refusal sheet.now word marks }
 {
-    let a = questions::ask(0, word >= 255, 5);
-    let b = questions::ask(a, marks >= 255, 5);
-    if b != 0 {
-        return b;
-    }
-    sheet_refusal(sheet)
+    require(word >= 255 && marks >= 255, Refusal::Buffers)?;
+    sheet_asked(sheet)
 }
 
 // Reads a sheet: its code, the first n symbols of word, 0 where lost, and the first n marks.
-pub fn read_sheet(sheet: &[u8], word: &mut [u8], marks: &mut [u8]) -> Sheet
-    ensures { ReadSays sheet.now word.old word.new marks.old marks.new result }
+#[tactic(auto, using(refusal::proofs::Refusals::chain))]
+pub fn read_sheet(sheet: &[u8], word: &mut [u8], marks: &mut [u8]) -> Result<Code, Refusal>
+    ensures { ReadSays sheet.now word.old word.new marks.old marks.new (sheet_answer result) }
 {
-    let refusal = read_refusal(sheet, word.len(), marks.len());
-    if refusal != 0 {
-        return refused(refusal);
-    }
+    let asked = read_asked(sheet, word.len(), marks.len());
+    asked?;
     let code = words::word_code(words::word_at(sheet, 0));
     let n = code.n as usize;
     fill(sheet, n, word, marks);
-    Sheet { refusal: 0, code }
+    Ok(code)
 }
 
-// A refused sheet.
-fn refused(refusal: u32) -> Sheet
-    ensures { (result.refusal ≡ refusal) × (result.code ≡ no_code) }
+// The writer's questions, for a sheet of so many bytes.
+#[tactic(auto, using(refusal::proofs::Refusals::chain), unfolding(code::specs::Question::ask, code::specs::Question::or_ask, crate::specs::Calls::write_refusal))]
+fn write_asked(code: Code, word: &[u8], marks: &[u8], bytes: usize) -> Result<(), Refusal>
+    ensures { number_of result ≡ write_refusal code word.now marks.now bytes }
 {
-    let code = Code {
-        field: 0,
-        r: 0,
-        n: 0,
-        k: 0,
-        wiring: 0,
-    };
-    Sheet { refusal, code }
-}
-
-// The writer's refusal, or 0, for a sheet of so many bytes.
-fn write_refusal(code: Code, word: &[u8], marks: &[u8], bytes: usize) -> u32
-    ensures { result ≡ write_refusal code word.now marks.now bytes }
-{
+    acceptance::accepted(code)?;
     let n = code.n as usize;
-    let a = questions::ask(acceptance::code_refusal(code), word.len() == n, 5);
-    let b = questions::ask(a, marks.len() == n, 5);
-    let c = questions::ask(b, bytes == 4 * (n + 2), 5);
-    let d = questions::ask(c, questions::all_below(marks, 2), 8);
-    if d != 0 {
-        return d;
-    }
-    questions::ask(
-        d,
+    let sizes = word.len() == n && marks.len() == n && bytes == 4 * (n + 2);
+    require(sizes, Refusal::Buffers)?;
+    require(questions::all_below(marks, 2), Refusal::Mark)?;
+    require(
         questions::kept_below(acceptance::single(code), word, marks),
-        6,
+        Refusal::Symbol,
     )
 }
 
@@ -186,13 +152,11 @@ fn write_words(code: Code, word: &[u8], marks: &[u8], sheet: &mut [u8])
 }
 
 // Writes the sheet of a code, a word and its marks: lost slots without their symbols.
-pub fn write_sheet(code: Code, word: &[u8], marks: &[u8], sheet: &mut [u8]) -> u32
-    ensures { WriteSays code word.now marks.now result sheet.old sheet.new }
+#[tactic(auto, using(refusal::proofs::Refusals::chain, crate::proofs::Accepted::good_stripe), unfolding(crate::specs::Calls::WriteSays))]
+pub fn write_sheet(code: Code, word: &[u8], marks: &[u8], sheet: &mut [u8]) -> Result<(), Refusal>
+    ensures { WriteSays code word.now marks.now (number_of result) sheet.old sheet.new }
 {
-    let x = write_refusal(code, word, marks, sheet.len());
-    if x != 0 {
-        return x;
-    }
+    write_asked(code, word, marks, sheet.len())?;
     write_words(code, word, marks, sheet);
-    0
+    Ok(())
 }

@@ -1,9 +1,27 @@
 // Reports on a row of sheets, and previews them: each is its length in two bytes, the high byte first, and its bytes.
 #![tactic(auto)]
 
-ghost use Rattle.std.specs.Prelude.{◌<◌};
+ghost use Rattle.std.specs.Prelude.{length};
+ghost use Rattle.std.specs.Iterator.{at_most};
 
 use std::io::{Result, Write};
+
+// The sheets of an input. They end where one is cut short.
+#[derive(Clone, Copy)]
+struct Sheets<'a>(&'a [u8]);
+
+impl<'a> Iterator for Sheets<'a> {
+    type Item = &'a [u8];
+
+    ghost remaining = { λ s. at_most (length s.0.now) };
+
+    fn next(&mut self) -> Option<&'a [u8]> {
+        let (length, rest) = self.0.split_first_chunk::<2>()?;
+        let (sheet, rest) = rest.split_at_checked(u16::from_be_bytes(*length) as usize)?;
+        self.0 = rest;
+        Some(sheet)
+    }
+}
 
 // The report of one sheet.
 fn put_report<W: Write>(output: &mut W, sheet: &[u8]) -> Result<()> {
@@ -19,43 +37,20 @@ fn put_preview<W: Write>(output: &mut W, sheet: &[u8]) -> Result<()> {
     show::put_front(output, &text, answer.value as usize)
 }
 
-// A byte as a length.
-fn wide(x: u8) -> usize
-    ensures { result < 256 }
-{
-    x as usize
-}
-
-// The sheet at a place, if it is there: the place after it, or the input's end.
-fn put_sheet<W: Write>(output: &mut W, input: &[u8], at: usize) -> Result<usize> {
-    let end = input.len();
-    if end < 2 {
-        return Ok(end);
-    }
-    if end - 2 < at {
-        return Ok(end);
-    }
-    let start = at + 2;
-    let n = wide(input[at]) * 256 + wide(input[at + 1]);
-    if end - start < n {
-        return Ok(end);
-    }
-    put_report(output, &input[start..start + n])?;
-    put_preview(output, &input[start..start + n])?;
-    Ok(start + n)
-}
-
 // The reports and previews of the first 64 sheets.
 fn put_sheets<W: Write>(output: &mut W, input: &[u8]) -> Result<()> {
-    let mut at: usize = 0;
-    for _ in 0..64 {
-        at = put_sheet(output, input, at)?;
+    for sheet in Sheets(input).take(64) {
+        put_report(output, sheet)?;
+        put_preview(output, sheet)?;
     }
     Ok(())
 }
 
 fn main(rt: HostRuntime) -> Result<()> {
     let mut buffer = [0u8; 65536];
-    let read = console::read_input(&mut rt.stdin(), &mut buffer);
-    put_sheets(&mut rt.stdout(), &buffer[..read.len])
+    let n = match console::read_input(&mut rt.stdin(), &mut buffer) {
+        Ok(n) => n,
+        Err(failed) => failed.len,
+    };
+    put_sheets(&mut rt.stdout(), &buffer[..n])
 }

@@ -3,9 +3,11 @@
 
 ghost use Rattle.std.specs.Prelude.{◌≡◌, Bool, ◌+◌, ◌*◌, ◌≤◌, ◌<◌, length};
 ghost use Rattle.code.specs.Laws.{Plain};
+ghost use Rattle.refusal.specs.Refusal.{number_of};
 ghost use Rattle.strip_words.specs.Strips.{strip_below, kept_strips_below, kept_symbol, kept_column, strips_refusal};
 
 use code::Shape;
+use refusal::{Refusal, require};
 
 // Whether strip p is lost, or every symbol of it is below most.
 fn strip_below(words: &[u8], l: usize, marks: &[u8], p: usize, most: u32) -> bool
@@ -37,36 +39,28 @@ fn kept_strips_below(shape: Shape, words: &[u8], l: usize, marks: &[u8]) -> bool
     true
 }
 
-// Questions 5, 8 and 6 after the refusal of those before; fits says whether the other buffers have their lengths, work is that of the work buffer.
-pub fn strips_refusal(
-    refusal: u32,
+// Questions 5, 8 and 6 after those before; fits says whether the other buffers have their lengths, work is that of the work buffer.
+#[tactic(auto, using(refusal::proofs::Refusals::chain), unfolding(code::specs::Question::ask, code::specs::Question::or_ask, crate::specs::Strips::strip_used, crate::specs::Strips::strips_refusal))]
+pub fn strips_asked(
+    asked: Result<(), Refusal>,
     shape: Shape,
     words: &[u8],
     marks: &[u8],
     fits: bool,
     work: usize,
-) -> u32
-    requires { refusal ≡ 0 → Plain shape }
-    ensures { result ≡ strips_refusal refusal shape words.now marks.now fits work }
+) -> Result<(), Refusal>
+    requires { number_of asked ≡ 0 → Plain shape }
+    ensures { number_of result ≡ strips_refusal (number_of asked) shape words.now marks.now fits work }
 {
-    if refusal != 0 {
-        return refusal;
-    }
+    asked?;
     let n = shape.n as usize;
     let l = words.len() / n;
-    let strips = questions::ask(refusal, strip_columns::strips_are(l, n, words.len()), 5);
-    let both = questions::ask(strips, marks.len() == n, 5);
-    let three = questions::ask(both, fits, 5);
-    if three != 0 {
-        return three;
-    }
+    require(strip_columns::strips_are(l, n, words.len()), Refusal::Buffers)?;
+    require(marks.len() == n && fits, Refusal::Buffers)?;
     let used = n * (shape.k as usize + 1 + l);
-    let lengths = questions::ask(three, used <= work, 5);
-    let marked = questions::ask(lengths, questions::all_below(marks, 2), 8);
-    if marked != 0 {
-        return marked;
-    }
-    questions::ask(marked, kept_strips_below(shape, words, l, marks), 6)
+    require(used <= work, Refusal::Buffers)?;
+    require(questions::all_below(marks, 2), Refusal::Mark)?;
+    require(kept_strips_below(shape, words, l, marks), Refusal::Symbol)
 }
 
 // The symbol of strip m in column c, 0 where the strip is lost: it is not read then.

@@ -11,7 +11,7 @@ unfolding q
 twelve s f P = omega (arith, n_room s P, P.room_most, ap q f)
 
 pub slice_bounds-codeword-end : goal.slice_bounds-codeword-end
-slice_bounds-codeword-end c = twelve c.args.shape c.requires.1 c.requires.0.plain.family.placed
+slice_bounds-codeword-end g c = twelve c.args.shape c.requires.1 c.requires.0.plain.family.placed
 
 pub slice_bounds-front-end : goal.slice_bounds-front-end
-slice_bounds-front-end c = simp (length-take) (omega (arith, twelve c.args.shape c.requires.1 c.requires.0.plain.family.placed))
+slice_bounds-front-end g c = simp (length-take) (omega (arith, twelve c.args.shape c.requires.1 c.requires.0.plain.family.placed))

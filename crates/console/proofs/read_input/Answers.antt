@@ -18,9 +18,8 @@ front_put_mid a k n xs ys within fits =
 pub loop-len-preserved : goal.loop-len-preserved
 loop-len-preserved g c =
     let at = c.loop-len.len in
-    let turn = c.read_once-turn in
-    let front = front_put_mid at (length c.loop-len.buf - at) turn.result.len c.loop-len.buf turn.new.buf c.loop-len.invariant.within turn.ensures.bound in
+    let front = front_put_mid at (length c.loop-len.buf - at) c.in-Ok.n c.loop-len.buf c.read.new.buf c.loop-len.invariant.within c.in-Ok.ensures.bound.0 in
     record {
-      within = omega arith;
-      read = subst (Consumes _ _) front (Consumes-trans _ _ _ _ _ c.loop-len.invariant.read turn.ensures.bytes);
+      within = omega (arith, c.in-Ok.ensures.bound.0);
+      read = subst (Consumes _ _) front (Consumes-trans _ _ _ _ _ c.loop-len.invariant.read c.in-Ok.ensures.bytes.0);
     }

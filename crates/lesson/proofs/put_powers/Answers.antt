@@ -4,4 +4,4 @@ use Rattle.lesson.proofs.put_powers.Goals as goal
 
 pub generator_power-requires : goal.generator_power-requires
 unfolding q
-generator_power-requires c = omega arith
+generator_power-requires g c = omega arith

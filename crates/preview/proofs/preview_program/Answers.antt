@@ -24,4 +24,4 @@ of_input input old new n front whole read wrote =
 pub returns-clause-written : goal.returns-clause-written
 returns-clause-written g c = λ zero.
     let said = in_front _ _ _ _ (search rules) c.preview_sheet-answer.ensures in
-    of_input _ _ _ _ _ (search rules) (c.read_input-read.ensures.front c.if-read.false) (subst (Appends _ _) said (c.write_output.ensures.written zero))
+    of_input _ _ _ _ _ (search rules) c.in-Ok.ensures.front (subst (Appends _ _) said (c.write_output.ensures.written zero))

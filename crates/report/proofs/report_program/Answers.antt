@@ -23,4 +23,4 @@ of_input input old new n front whole read bs is wrote =
 pub returns-clause-written : goal.returns-clause-written
 returns-clause-written g c = λ zero.
     let said = in_front _ _ _ _ (search rules) c.report-answer.ensures in
-    of_input _ _ _ _ _ (search rules) (c.read_input-read.ensures.front c.if-read.false) said.0 said.1 (subst (Appends _ _) said.2 (c.write_output.ensures.written zero))
+    of_input _ _ _ _ _ (search rules) c.in-Ok.ensures.front said.0 said.1 (subst (Appends _ _) said.2 (c.write_output.ensures.written zero))

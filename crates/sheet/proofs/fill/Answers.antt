@@ -1,5 +1,4 @@
 use mathlib.Core.Path.{ap, ◌∙◌}
-use Prim.Native.Nat.{◌-◌}
 use native.Mathlib.Omega.{arith}
 use Rattle.algebra.proofs.Filling.{filled_none, filled_more, filled_front}
 use Rattle.words.specs.Word.{word_symbol, word_mark}

@@ -1,29 +1,24 @@
-use mathlib.Core.Path.{◌≡◌, refl, sym, ap, ◌∙◌}
+use mathlib.Core.Path.{◌≡◌, refl, ap, ◌∙◌}
 use mathlib.Core.List.{◌++◌}
 use native.Mathlib.Omega.{arith}
 use lib.ListN.{length, drop}
 use Rattle.algebra.specs.Sequence.{tabulate}
 use Rattle.words.specs.Word.{word_code, word_symbol, word_mark}
 use Rattle.sheet.specs.Sheet.{middle_word, code_in, symbols_in, marks_in}
-use Rattle.sheet.specs.declared.Sheet.{Sheet}
-use Rattle.sheet.proofs.Accepted.{read_good, read_stops, read_done}
+use Rattle.sheet.specs.Calls.{Sheet}
+use Rattle.sheet.proofs.Accepted.{read_good, read_done}
 use Rattle.sheet.proofs.read_sheet.Goals as goal
-
-pub returns-then-refusal-ne0 : goal.returns-then-refusal-ne0
-returns-then-refusal-ne0 c =
-    let a = c.args in
-    read_stops a.sheet.now a.word.now a.marks.now c.refused.result c.read_refusal-refusal.result c.read_refusal-refusal.ensures c.if-refusal-ne0.true c.refused.ensures
 
 pub word_at-requires : goal.word_at-requires
 word_at-requires c =
     let a = c.args in
-    omega (arith, (read_good a.sheet.now (length a.word.now) (length a.marks.now) (sym c.read_refusal-refusal.ensures ∙ c.if-refusal-ne0.false)).2.words)
+    omega (arith, (read_good a.sheet.now (length a.word.now) (length a.marks.now) (grind arith)).2.words)
 
 pub fill-requires : goal.fill-requires
 unfolding code_in
 fill-requires c =
     let a = c.args in
-    let g = read_good a.sheet.now (length a.word.now) (length a.marks.now) (sym c.read_refusal-refusal.ensures ∙ c.if-refusal-ne0.false) in
+    let g = read_good a.sheet.now (length a.word.now) (length a.marks.now) (grind arith) in
     let e = c.word_code-code.ensures in
     let m = ap (λ c. c.n) (e ∙ ap (λ w. word_code w) c.word_at.ensures) in
     let l = ap (λ c. c.n) e in
@@ -38,6 +33,6 @@ returns c =
     let m = ap (λ c. c.n) e in
     let x : Sheet = record { refusal = 0; code = c.word_code-code.result } in
     read_done s a.word.now a.marks.now x c.fill.new.word c.fill.new.marks
-    (sym c.if-refusal-ne0.false ∙ c.read_refusal-refusal.ensures) refl e
+    (grind arith) refl e
     (c.fill.ensures.word_after ∙ ap (λ n. tabulate (λ p. word_symbol (middle_word s p)) n ++ drop n a.word.now) m)
     (c.fill.ensures.marks_after ∙ ap (λ n. tabulate (λ p. word_mark (middle_word s p)) n ++ drop n a.marks.now) m)

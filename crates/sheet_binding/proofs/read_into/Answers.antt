@@ -1,18 +1,31 @@
-use Rattle.sheet_binding.proofs.Sheets.{read_five, read_no, read_yes}
+use mathlib.Core.Path.{◌≡◌}
+use mathlib.Core.Logic.{◌≢◌}
+use native.Mathlib.Omega.{arith}
+use borrow.Author.Rules.{rules}
+use lib.ListN.{length}
+use Rattle.code.specs.Question.{ask}
+use Rattle.refusal.specs.Refusal.{number_of}
+use Rattle.refusal.proofs.Refusals.{is_refusal}
+use Rattle.std.proofs.lemmas.Bool.Decides.{nat_tests}
+use Rattle.sheet_binding.proofs.Sheets.{read_five, read_err, read_ok}
 use Rattle.sheet_binding.proofs.read_into.Goals as goal
 
-pub returns-then-code-ne5 : goal.returns-then-code-ne5
-returns-then-code-ne5 c = let a = c.args in read_five a.sheet.now a.word.now a.marks.now a.code.now c.if-code-ne5.true
-
-pub returns-then-stops : goal.returns-then-stops
-returns-then-stops c =
+pub returns-in_err-require : goal.returns-in_err-require
+unfolding ask
+returns-in_err-require c =
     let a = c.args in
-    let d = c.read_sheet-read in
-    read_no a.sheet.now a.word.now d.new.word a.marks.now d.new.marks a.code.now d.result c.if-code-ne5.false d.ensures c.if-stops.true
+    let n : length a.code.now ≢ 5 = grind (arith, nat_tests, is_refusal) in
+    let x : number_of c.from_residual.result ≡ 5 = grind (arith, nat_tests, is_refusal) in
+    read_five a.sheet.now a.word.now a.marks.now a.code.now _ n x
+
+pub returns-in_err-read : goal.returns-in_err-read
+unfolding ask
+returns-in_err-read c =
+    let l : length c.args.code.now ≡ 5 = grind (arith, nat_tests) in
+    read_err _ _ _ _ _ _ _ _ l c.in_err-read.ensures (search rules)
 
 pub returns : goal.returns
+unfolding ask
 returns c =
-    let a = c.args in
-    let d = c.read_sheet-read in
-    let p = c.put_code in
-    read_yes a.sheet.now a.word.now d.new.word a.marks.now d.new.marks a.code.now d.result c.if-code-ne5.false d.ensures p.new.numbers c.if-stops.false p.ensures
+    let l : length c.args.code.now ≡ 5 = grind (arith, nat_tests) in
+    read_ok _ _ _ _ _ _ _ _ l c.in_ok-read.ensures (search rules)

@@ -1,6 +1,0 @@
-use Rattle.std.proofs.Common.{arith}
-use Rattle.code.proofs.Places.{n_room}
-use Rattle.lesson.proofs.put_slot_points.Goals as goal
-
-pub point_of-requires : goal.point_of-requires
-point_of-requires c = (c.power_table-powers.ensures, c.requires, omega (arith, n_room c.args.shape c.requires))
