@@ -6,6 +6,7 @@ ghost use Rattle.code.specs.Laws.{Decodable};
 
 use code::{Code, Shape};
 use console::words::{Words, is_decimal, value_of};
+use refusal::Refusal;
 use std::io::{Result, Write};
 
 // What was written: the sheet, or a sentence on what is wrong with the input.
@@ -50,15 +51,15 @@ fn refuse_code<W: Write>(
     output: &mut W,
     words: Words,
     code: Code,
-    refusal: u32,
+    refusal: Refusal,
 ) -> Result<Written> {
     let (i, reason) = match refusal {
-        2 => (0, "r is 1, 2, 3, 5 or 11 (refusal 2)"),
-        3 => (
+        Refusal::Locality => (0, "r is 1, 2, 3, 5 or 11 (refusal 2)"),
+        Refusal::Length => (
             1,
             "n is from 2 to 12, and n mod (r + 1) is not 1 (refusal 3)",
         ),
-        17 => (
+        Refusal::Wiring => (
             1,
             "wired groups are whole: n is a multiple of r + 1 (refusal 17)",
         ),
@@ -101,16 +102,17 @@ fn put_message<W: Write>(
 {
     let mut codeword = [0u8; 12];
     let front = &mut codeword[..shape.n as usize];
-    let refusal = encode::encode_with(0, shape, message, front);
-    if refusal == 5 {
-        return refuse_length(output, message.len(), shape.k);
+    match encode::encode_with(Ok(()), shape, message, front) {
+        Ok(()) => {
+            lesson::put_sheet(output, shape, message, front)?;
+            Ok(Written::Sheet)
+        }
+        Err(Refusal::Buffers) => refuse_length(output, message.len(), shape.k),
+        Err(_) => {
+            let i = first_large(message);
+            refuse_at(output, words, 3 + i, "a symbol is from 0 to 12 (refusal 6)")
+        }
     }
-    if refusal != 0 {
-        let i = first_large(message);
-        return refuse_at(output, words, 3 + i, "a symbol is from 0 to 12 (refusal 6)");
-    }
-    lesson::put_sheet(output, shape, message, front)?;
-    Ok(Written::Sheet)
 }
 
 // The code over thirteen of r, n and k, and a wiring.
@@ -137,8 +139,7 @@ fn put_numbers<W: Write>(
     requires { (3 ≤ count) × (length numbers.now ≡ 16) }
 {
     let code = code_of(numbers[0], numbers[1], numbers[2], wiring);
-    let refusal = acceptance::code_refusal(code);
-    if refusal != 0 {
+    if let Err(refusal) = acceptance::accepted(code) {
         return refuse_code(output, words, code, refusal);
     }
     match numbers.get(3..count) {

@@ -11,5 +11,5 @@ accepted c s e o f = (subst Decodable (sym e) (decodable_of c o), ap (λ s. s.fi
 
 pub put_message-requires : goal.put_message-requires
 put_message-requires g c =
-    let a = accepted c.code_of-code.result c.single.result c.single.ensures (sym c.code_refusal-refusal.ensures ∙ omega arith) c.code_of-code.ensures in
+    let a = accepted c.code_of-code.result c.single.result c.single.ensures (grind arith) c.code_of-code.ensures in
     (a.0, a.1, omega (arith, c.in-Some.ensures.lookup, c.requires.1))
