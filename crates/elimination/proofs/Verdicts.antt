@@ -1,13 +1,15 @@
 -- From the solved equations to the verdict. Assumes nothing.
---   verdict_none, verdict_one, verdict_more    the equations contradict each other; they have one solution; they have two
-use mathlib.Core.Path.{◌≡◌, refl, sym}
+--   verdict_none     the equations contradict each other
+--   verdict_asked    whether they have one solution, or two
+use mathlib.Core.Path.{◌≡◌, refl}
 use mathlib.Core.Bool.{Bool, true, false}
 use mathlib.Core.List.{List}
 use Prim.Native.Nat.{ℕ}
 use Rattle.algebra.specs.Sequence.{all_below}
-use Rattle.algebra.proofs.Booleans.{so, yes_true, differ}
+use Rattle.algebra.proofs.Booleans.{so, yes_true}
 use Rattle.field.specs.Field.{q}
 use Rattle.code.specs.Decoding.{fits}
+use Rattle.code.specs.Question.{ask}
 use Rattle.code.specs.Verdict.{Verdict, one, none, more}
 use Rattle.code.specs.declared.Shape.{Shape}
 use Rattle.code.proofs.Codewords.{MessageIs}
@@ -26,11 +28,8 @@ module _ (s : Shape) (ws ms : List ℕ) where
     fit : (ys : List ℕ) → Vector s.field s.k ys → Solved s.field s.k w ys → fits s ws ms ys ≡ true
     fit ys v o = fits_of s ws ms ys (record { message = record { length_is = v.size; below = so v.below }; agree = G.agree e ys v o })
 
-    pub verdict_one : (a b : List ℕ) (y : Bool) → Finished s.field s.k w a b y → y ≡ true → Verdict s ws ms a b 0
-    verdict_one a b true (just v o u) z =
+    pub verdict_asked : (a b : List ℕ) (y : Bool) → Finished s.field s.k w a b y → Verdict s ws ms a b (ask y 10 0)
+    unfolding ask
+    verdict_asked a b true (just v o u) =
         one (fit b v o) (λ ys f. let F = fits_to s ws ms ys f in u ys (vector_of s ys F.message) (G.solve e ys (vector_of s ys F.message) F.agree))
-    verdict_one a b false F z = differ (sym z)
-
-    pub verdict_more : (a b : List ℕ) (y : Bool) → Finished s.field s.k w a b y → y ≡ false → Verdict s ws ms a b 10
-    verdict_more a b true F z = differ z
-    verdict_more a b false (several ys zs v u o t n p) z = more ys zs (fit ys v o) (fit zs u t) n p
+    verdict_asked a b false (several ys zs v u o t n p) = more ys zs (fit ys v o) (fit zs u t) n p

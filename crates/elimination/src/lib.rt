@@ -6,11 +6,13 @@ ghost use Rattle.field.specs.Table.{Powers, Logs};
 ghost use Rattle.code.specs.Laws.{Plain};
 ghost use Rattle.code.specs.Step.{Received};
 ghost use Rattle.code.specs.Verdict.{Verdict};
+ghost use Rattle.refusal.specs.Refusal.{number_of};
 ghost use Rattle.linear.specs.System.{Echelon};
 ghost use Rattle.elimination.specs.Task.{work_size, Task};
 ghost use Rattle.elimination.specs.Step.{Taken, Gathered};
 
 use code::Shape;
+use refusal::{Refusal, require};
 
 // Takes in the equation of slot p, if it is kept: false where no message is left.
 fn take_slot(
@@ -57,7 +59,7 @@ fn gather(
     true
 }
 
-// Elimination. 0: just one message fits, and is written; 9: none; 10: more than one. All of work is left 0.
+// Elimination: just one message fits, and is written; or none does, which is Foreign, or more than one, which is Undecided. All of work is left 0.
 pub fn solve_beyond(
     shape: Shape,
     word: &[u8],
@@ -66,19 +68,16 @@ pub fn solve_beyond(
     work: &mut [u8],
     powers: &[u8; 255],
     logs: &[u8; 256],
-) -> u32
+) -> Result<(), Refusal>
     requires { Plain shape × Task shape word.now marks.now message.old work.old × Powers 1 powers.now × Logs logs.now }
-    ensures { Verdict shape word.now marks.now message.old message.new result × (work.new ≡ replicate (length work.old) 0) }
+    ensures { Verdict shape word.now marks.now message.old message.new (number_of result) × (work.new ≡ replicate (length work.old) 0) }
 {
     if !gather(shape, word, marks, work, powers, logs) {
         work.fill(0);
-        return 9;
+        return Err(Refusal::Foreign);
     }
     let k = shape.k as usize;
     let one = linear::finish(shape.field, work, k, message, powers, logs);
     work.fill(0);
-    if one {
-        return 0;
-    }
-    10
+    require(one, Refusal::Undecided)
 }

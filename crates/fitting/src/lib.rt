@@ -9,9 +9,11 @@ ghost use Rattle.code.specs.Erasure.{lost_number};
 ghost use Rattle.code.specs.Laws.{Whole};
 ghost use Rattle.code.specs.Verdict.{Verdict};
 ghost use Rattle.code.specs.Step.{Received};
+ghost use Rattle.refusal.specs.Refusal.{number_of};
 ghost use Rattle.fitting.specs.Step.{Pointed, gaps_zero, message_of};
 
 use code::Shape;
+use refusal::{Refusal, require};
 
 // Writes the points of a group's slots; those of the groups before it are there.
 fn fill_group(shape: Shape, group: u32, points: &mut [u8; 256], powers: &[u8; 255])
@@ -65,7 +67,7 @@ fn read_message(shape: Shape, coefs: &[u8; 256], message: &mut [u8])
     }
 }
 
-// Interpolation, for losses within the guarantee. 0: just one message fits, and is written; 9: none.
+// Interpolation, for losses within the guarantee: just one message fits, and is written; or none does, which is Foreign.
 pub fn solve_within(
     shape: Shape,
     word: &[u8],
@@ -73,16 +75,16 @@ pub fn solve_within(
     message: &mut [u8],
     powers: &[u8; 255],
     logs: &[u8; 256],
-) -> u32
+) -> Result<(), Refusal>
     requires { Whole shape × (shape.tolerance ≡ 1) × Received shape word.now marks.now × (length message.old ≡ shape.k) × (lost_number shape marks.now ≤ guarantee shape) × Powers 1 powers.now × Logs logs.now }
-    ensures { Verdict shape word.now marks.now message.old message.new result }
+    ensures { Verdict shape word.now marks.now message.old message.new (number_of result) }
 {
     let n = shape.n as usize;
     let sure = losses::guarantee_of(shape) as usize;
     let mut points = [0u8; 256];
     let mut coefs = [0u8; 256];
     fill_points(shape, &mut points, powers);
-    if !interpolation::interpolate(
+    let interpolated = interpolation::interpolate(
         shape.field,
         n - sure,
         &points,
@@ -91,12 +93,9 @@ pub fn solve_within(
         &mut coefs,
         powers,
         logs,
-    ) {
-        return 9;
-    }
-    if !gaps_zero(shape, &coefs) {
-        return 9;
-    }
+    );
+    require(interpolated, Refusal::Foreign)?;
+    require(gaps_zero(shape, &coefs), Refusal::Foreign)?;
     read_message(shape, &coefs, message);
-    0
+    Ok(())
 }

@@ -11,9 +11,11 @@ ghost use Rattle.code.specs.Erasure.{lost_number};
 ghost use Rattle.code.specs.Laws.{Decodable};
 ghost use Rattle.code.specs.Verdict.{Verdict};
 ghost use Rattle.code.specs.Step.{Received};
+ghost use Rattle.refusal.specs.Refusal.{number_of};
 ghost use Rattle.shortening.specs.Mother.{mother};
 
 use code::Shape;
+use refusal::Refusal;
 
 // Interpolation over all places, and the message of the short code in place of that of whole groups, which row is room for.
 fn solve_long(
@@ -24,20 +26,17 @@ fn solve_long(
     message: &mut [u8],
     powers: &[u8; 255],
     logs: &[u8; 256],
-) -> u32
+) -> Result<(), Refusal>
     requires { Decodable shape × (whole shape ≡ false) × Received (mother shape) word.now marks.now
         × ((p : ℕ) → shape.n ≤ p → (at word.now p ≡ 0) × (at marks.now p ≡ 0))
         × (length row.old ≡ shape.k + missing shape) × (length message.old ≡ shape.k)
         × (lost_number (mother shape) marks.now ≤ guarantee shape) × Powers 1 powers.now × Logs logs.now }
-    ensures { Verdict shape word.now marks.now message.old message.new result }
+    ensures { Verdict shape word.now marks.now message.old message.new (number_of result) }
 {
     let mother = shortening::mother_of(shape);
-    let verdict = fitting::solve_within(mother, word, marks, row, powers, logs);
-    if verdict != 0 {
-        return verdict;
-    }
+    fitting::solve_within(mother, word, marks, row, powers, logs)?;
     shortening::shorten(shape, row, message, powers, logs);
-    0
+    Ok(())
 }
 
 // The kept symbols and the marks with zeros behind them, for the missing places.
@@ -48,9 +47,9 @@ fn solve_short(
     message: &mut [u8],
     powers: &[u8; 255],
     logs: &[u8; 256],
-) -> u32
+) -> Result<(), Refusal>
     requires { Decodable shape × (whole shape ≡ false) × Received shape word.now marks.now × (length message.old ≡ shape.k) × (lost_number shape marks.now ≤ guarantee shape) × Powers 1 powers.now × Logs logs.now }
-    ensures { Verdict shape word.now marks.now message.old message.new result }
+    ensures { Verdict shape word.now marks.now message.old message.new (number_of result) }
 {
     let places = layout::room_of(shape) as usize;
     let number = (shape.k + layout::missing_of(shape)) as usize;
@@ -70,7 +69,7 @@ fn solve_short(
     )
 }
 
-// Interpolation, for losses within the guarantee. 0: just one message fits, and is written; 9: none.
+// Interpolation, for losses within the guarantee: just one message fits, and is written; or none does, which is Foreign.
 pub fn solve_within(
     shape: Shape,
     word: &[u8],
@@ -78,9 +77,9 @@ pub fn solve_within(
     message: &mut [u8],
     powers: &[u8; 255],
     logs: &[u8; 256],
-) -> u32
+) -> Result<(), Refusal>
     requires { Decodable shape × Received shape word.now marks.now × (length message.old ≡ shape.k) × (lost_number shape marks.now ≤ guarantee shape) × Powers 1 powers.now × Logs logs.now }
-    ensures { Verdict shape word.now marks.now message.old message.new result }
+    ensures { Verdict shape word.now marks.now message.old message.new (number_of result) }
 {
     let short = layout::missing_of(shape) != 0;
     if short {

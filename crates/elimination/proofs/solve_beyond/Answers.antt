@@ -1,7 +1,7 @@
 use mathlib.Core.Path.{ap, ◌∙◌}
 use Prim.Native.Nat.{ℕ}
 use lib.ListN.{replicate}
-use Rattle.elimination.proofs.Verdicts.{verdict_none, verdict_one, verdict_more}
+use Rattle.elimination.proofs.Verdicts.{verdict_none, verdict_asked}
 use Rattle.elimination.proofs.solve_beyond.Goals as goal
 
 pub returns-then-not-gather : goal.returns-then-not-gather
@@ -12,22 +12,12 @@ returns-then-not-gather c =
       c.fill.ensures.after (λ y h. h) ∙ ap (λ (l : ℕ). replicate l 0) g.auto.work,
     )
 
-pub returns-then-one : goal.returns-then-one
-returns-then-one c =
-    let a = c.args in
-    let g = c.gather in
-    let t = c.finish-one in (
-      verdict_one a.shape a.word.now a.marks.now g.new.work g.result g.ensures c.if-not-gather.false a.message.now
-          t.new.solution t.result t.ensures c.if-one.true,
-      c.fill-2.ensures.after (λ y h. h) ∙ ap (λ (l : ℕ). replicate l 0) g.auto.work,
-    )
-
 pub returns : goal.returns
 returns c =
     let a = c.args in
     let g = c.gather in
     let t = c.finish-one in (
-      verdict_more a.shape a.word.now a.marks.now g.new.work g.result g.ensures c.if-not-gather.false a.message.now
-          t.new.solution t.result t.ensures c.if-one.false,
+      rw c.require.ensures (verdict_asked a.shape a.word.now a.marks.now g.new.work g.result g.ensures c.if-not-gather.false a.message.now
+          t.new.solution t.result t.ensures),
       c.fill-2.ensures.after (λ y h. h) ∙ ap (λ (l : ℕ). replicate l 0) g.auto.work,
     )

@@ -3,6 +3,7 @@ use Prim.Native.Nat.{◌+◌}
 use native.Mathlib.Omega.{arith}
 use lib.ListN.{length}
 use Rattle.code.proofs.Bounds.{row_byte}
+use Rattle.refusal.specs.Refusal.{number_of}
 use Rattle.shortening.proofs.Extending.{extended_lost}
 use Rattle.fitting.proofs.Fronts.{slots_room, front_size}
 use Rattle.short_fitting.proofs.Padding.{padded_word, padded_received, padded_verdict}
@@ -62,4 +63,4 @@ returns c =
     let l = c.room_of-places in
     let t = c.copy_from_slice in
     let W = padded_word a.shape P a.word.now a.marks.now c.load.new.rests t.new.self l.result c.requires.2 l.ensures t.ensures.after c.load.ensures in
-    padded_verdict a.shape P a.word.now a.marks.now _ _ W a.message.now _ c.solve_long.result c.solve_long.ensures
+    padded_verdict a.shape P a.word.now a.marks.now _ _ W a.message.now _ (number_of c.solve_long.result) c.solve_long.ensures
