@@ -1,11 +1,10 @@
 -- What decode answers. Assumes nothing.
---   refused, answered                 what decode says
---   is_verdict                        a verdict is one of three numbers
---   settled                           what decode says where it does not refuse
+--   is_verdict    a verdict is one of three numbers
+--   settled       what decode says where it does not refuse
 use mathlib.Core.Path.{◌≡◌, refl}
 use mathlib.Core.Logic.{◌≢◌}
 use mathlib.Core.List.{List}
-use Prim.Native.Nat.{ℕ, zero, suc}
+use Prim.Native.Nat.{ℕ}
 use lib.ListN.{length}
 use Rattle.code.specs.declared.Shape.{Shape}
 use Rattle.code.specs.Verdict.{Verdict, one, none, more}
@@ -18,21 +17,7 @@ is_verdict s ws ms a z x (one f u) n m = absurd (n refl)
 is_verdict s ws ms a z x (none f u) n m = absurd (m refl)
 is_verdict s ws ms a z x (more ys zs f h d p) n m = refl
 
-module _ (n : ℕ) (s : Shape) (ws ms a : List ℕ) where
-  -- refused: nothing changes
-  pub refused : (w : List ℕ) (x : ℕ) → x ≡ decode_refusal n s ws ms (length a) (length w) → x ≢ 0 → DecodeSays n s ws ms x a a w w
-  unfolding DecodeSays DecodeAs
-  refused w x e h = go (decode_refusal n s ws ms (length a) (length w)) e
-    where
-      go : (y : ℕ) → x ≡ y → DecodeAs y s ws ms x a a w w
-      go zero p = absurd (h p)
-      go (suc y) p = (p, refl, refl)
-
-  module _ (z w v : List ℕ) (e : decode_refusal n s ws ms (length a) (length w) ≡ 0) where
-    pub answered : (x : ℕ) → Verdict s ws ms a z x × (v ≡ cleared s w) → DecodeSays n s ws ms x a z w v
-    unfolding DecodeSays DecodeAs
-    answered x t = rw e t
-
-    pub settled : (x : ℕ) → DecodeSays n s ws ms x a z w v → Verdict s ws ms a z x × (v ≡ cleared s w)
-    unfolding DecodeSays DecodeAs
-    settled x t = rw e at t
+pub settled : (n : ℕ) (s : Shape) (ws ms a z w v : List ℕ) → decode_refusal n s ws ms (length a) (length w) ≡ 0 → (x : ℕ) → DecodeSays n s ws ms x a z w v
+    → Verdict s ws ms a z x × (v ≡ cleared s w)
+unfolding DecodeSays DecodeAs
+settled n s ws ms a z w v e x t = rw e at t

@@ -22,7 +22,7 @@ fn settle_column(
     ensures { ColumnSettled shape l words.now marks.now c result (drop (shape.n * (shape.k + 1)) room.old) (drop (shape.n * (shape.k + 1)) room.new) }
 {
     strip_words::take_kept(words, marks, l, c, word);
-    let answer = decode::settle(shape, word, marks, message, room);
+    let answer = refusal::number_of(decode::settle(shape, word, marks, message, room));
     if answer != 0 {
         return answer;
     }
