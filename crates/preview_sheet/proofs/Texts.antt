@@ -16,8 +16,7 @@ use Rattle.code.specs.Family.{single}
 use Rattle.code.proofs.Accepted.{decodable_of}
 use Rattle.code.proofs.Bounds.{work_most}
 use Rattle.grading.specs.Step.{Marked}
-use Rattle.sheet.specs.Calls.{sheet_refusal}
-use Rattle.sheet.specs.declared.Sheet.{Sheet}
+use Rattle.sheet.specs.Calls.{Sheet, sheet_refusal}
 use Rattle.sheet.proofs.Reading.{Told}
 use Rattle.text.specs.Text.{refused_line}
 use Rattle.text.specs.Page.{Wrote}

@@ -2,10 +2,11 @@
 #![tactic(auto)]
 
 ghost use Rattle.std.specs.Prelude.{◌≡◌, ◌≤◌, length, take};
+ghost use Rattle.refusal.specs.Refusal.{answer_of};
 ghost use Rattle.text.specs.Page.{Wrote};
 ghost use Rattle.preview_sheet.specs.Text.{preview_text, SheetPreviewSays};
 
-use code::Answer;
+use refusal::{Refusal, require};
 use text::Page;
 
 // Puts the preview of a sheet on an empty page.
@@ -20,42 +21,31 @@ fn put_preview(
     requires { (255 ≤ length word.old) × (255 ≤ length marks.old) × (61455 ≤ length work.old) × (page.old.end ≡ 0) × (8420 ≤ length page.old.text.now) }
     ensures { Wrote (preview_text input.now) page.old page.new × (page.new.end ≤ 8420) }
 {
-    let sheet = sheet::read_sheet(input, word, marks);
-    let refusal = sheet.refusal;
-    if refusal != 0 {
-        page.put_refused(refusal);
-        return;
+    match sheet::read_sheet(input, word, marks) {
+        Ok(code) => {
+            let n = code.n as usize;
+            preview_lines::put_stripe(acceptance::single(code), &mut marks[..n], work, page);
+        }
+        Err(refusal) => page.put_refused(refusal.number()),
     }
-    let code = sheet.code;
-    let n = code.n as usize;
-    preview_lines::put_stripe(acceptance::single(code), &mut marks[..n], work, page);
 }
 
 // Writes the preview of a sheet in front of the text and answers its length; refuses a text of fewer than 8,420 bytes.
-pub fn preview_sheet(input: &[u8], text: &mut [u8]) -> Answer
-    ensures { SheetPreviewSays input.now text.old text.new result }
+pub fn preview_sheet(input: &[u8], text: &mut [u8]) -> Result<u32, Refusal>
+    ensures { SheetPreviewSays input.now text.old text.new (answer_of result) }
 {
-    let small = text.len() < 8420;
-    if small {
-        return Answer {
-            refusal: 5,
-            value: 0,
-        };
-    }
+    require(text.len() >= 8420, Refusal::Buffers)?;
     let mut word = [0u8; 255];
     let mut marks = [0u8; 255];
     let mut work = [0u8; 61455];
     let mut page = Page::new(text);
     put_preview(input, &mut word, &mut marks, &mut work, &mut page);
-    Answer {
-        refusal: 0,
-        value: page.end as u32,
-    }
+    Ok(page.end as u32)
 }
 
 // Writes the preview of a sheet, of which at most the first 1,032 bytes are judged.
-pub fn preview_front(input: &[u8], text: &mut [u8]) -> Answer
-    ensures { SheetPreviewSays (take 1032 input.now) text.old text.new result }
+pub fn preview_front(input: &[u8], text: &mut [u8]) -> Result<u32, Refusal>
+    ensures { SheetPreviewSays (take 1032 input.now) text.old text.new (answer_of result) }
 {
     preview_sheet(&input[..input.len().min(1032)], text)
 }

@@ -1,17 +1,28 @@
 use mathlib.Core.Path.{refl}
 use native.Mathlib.Omega.{arith}
 use Rattle.std.proofs.Common.{rules}
+use Rattle.code.specs.Question.{ask}
 use Rattle.code.specs.declared.Answer.{Answer}
+use Rattle.refusal.proofs.Refusals.{is_refusal}
+use Rattle.std.proofs.lemmas.Bool.Decides.{nat_tests}
 use Rattle.preview_sheet.specs.Text.{short}
 use Rattle.preview_sheet.proofs.Texts.{says_page}
 use Rattle.preview_sheet.proofs.preview_sheet.Goals as goal
 
-pub returns-then-small : goal.returns-then-small
-returns-then-small c = short (omega arith) refl refl refl
+pub put_preview-requires : goal.put_preview-requires
+unfolding ask
+put_preview-requires c =
+    let p = c.new-page.ensures.empty in
+    (omega arith, omega arith, omega arith, p.1, rw p.0 (grind (arith, nat_tests)))
+
+pub returns-in_err-require : goal.returns-in_err-require
+unfolding ask
+returns-in_err-require c = short (grind (arith, nat_tests, is_refusal)) (grind (arith, nat_tests, is_refusal)) (search rules) refl
 
 pub returns : goal.returns
+unfolding ask
 returns c =
     let a = c.args in
     let p = c.put_preview.new.page in
     let x : Answer = record { refusal = 0; value = p.end } in
-    says_page a.input.now _ _ c.new-page.result p x (search rules) c.new-page.ensures.empty.0 c.new-page.ensures.empty.1 (omega arith) refl refl c.put_preview.ensures.0
+    says_page a.input.now _ _ c.new-page.result p x (search rules) c.new-page.ensures.empty.0 c.new-page.ensures.empty.1 (grind (arith, nat_tests)) refl refl c.put_preview.ensures.0
