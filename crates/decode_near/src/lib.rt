@@ -8,10 +8,12 @@ ghost use Rattle.code.specs.Laws.{Decodable};
 ghost use Rattle.code.specs.Verdict.{Verdict};
 ghost use Rattle.code.specs.Work.{cleared};
 ghost use Rattle.elimination.specs.Task.{Task};
+ghost use Rattle.refusal.specs.Refusal.{number_of, answer_of};
 ghost use Rattle.decode.specs.Step.{Handed};
 ghost use Rattle.decode_near.specs.Near.{NearSolved, NearSays};
 
-use code::{Answer, Code, Shape};
+use code::{Code, Shape};
+use refusal::Refusal;
 
 // Settles what the pass has left, from the mended copy and its marks alone. All of work is left 0.
 fn settle_left(
@@ -43,25 +45,16 @@ fn solve_near(
     work: &mut [u8],
     copy: &mut [u8],
     left: &mut [u8],
-) -> Answer
+) -> Result<u32, Refusal>
     requires { Decodable shape × Task shape word.now marks.now message.old work.old × (length copy.old ≡ shape.n) × (length left.old ≡ shape.n) }
-    ensures { NearSolved shape word.now marks.now result message.old message.new × (work.new ≡ replicate (length work.old) 0) }
+    ensures { NearSolved shape word.now marks.now (answer_of result) message.old message.new × (work.new ≡ replicate (length work.old) 0) }
 {
     let powers = tables::power_table();
     let logs = tables::log_table();
     let number = copy_mending::mend_copy(shape, word, marks, copy, left, &powers, &logs);
     let verdict = settle_left(shape, copy, left, message, work, &powers, &logs);
-    let unsettled = verdict != 0;
-    if unsettled {
-        return Answer {
-            refusal: verdict,
-            value: 0,
-        };
-    }
-    Answer {
-        refusal: 0,
-        value: number,
-    }
+    decode::verdict_of(verdict)?;
+    Ok(number)
 }
 
 // Settles a word that no question refuses, in the front of work.
@@ -71,9 +64,9 @@ fn settle_near(
     marks: &[u8],
     message: &mut [u8],
     work: &mut [u8],
-) -> Answer
+) -> Result<u32, Refusal>
     requires { Handed shape word.now marks.now (length message.old) (length work.old) }
-    ensures { NearSolved shape word.now marks.now result message.old message.new × (work.new ≡ cleared shape work.old) }
+    ensures { NearSolved shape word.now marks.now (answer_of result) message.old message.new × (work.new ≡ cleared shape work.old) }
 {
     let n = shape.n as usize;
     let k = shape.k as usize;
@@ -91,25 +84,20 @@ fn settle_near(
     )
 }
 
-// decode_near of any family: after its code's refusal.
+// decode_near of any family: after the questions on its numbers.
+#[tactic(auto, using(refusal::proofs::Refusals::chain, decode::proofs::Refusals::handed), unfolding(crate::specs::Near::NearSays, crate::specs::Near::NearAs))]
 pub fn decode_near_with(
-    refusal: u32,
+    asked: Result<(), Refusal>,
     shape: Shape,
     word: &[u8],
     marks: &[u8],
     message: &mut [u8],
     work: &mut [u8],
-) -> Answer
-    requires { refusal ≡ 0 → Decodable shape }
-    ensures { NearSays refusal shape word.now marks.now result message.old message.new work.old work.new }
+) -> Result<u32, Refusal>
+    requires { number_of asked ≡ 0 → Decodable shape }
+    ensures { NearSays (number_of asked) shape word.now marks.now (answer_of result) message.old message.new work.old work.new }
 {
-    let asked = decode::decode_refusal(refusal, shape, word, marks, message.len(), work.len());
-    if asked != 0 {
-        return Answer {
-            refusal: asked,
-            value: 0,
-        };
-    }
+    decode::decode_asked(asked, shape, word, marks, message.len(), work.len())?;
     settle_near(shape, word, marks, message, work)
 }
 
@@ -120,11 +108,11 @@ pub fn decode_near(
     marks: &[u8],
     message: &mut [u8],
     work: &mut [u8],
-) -> Answer
-    ensures { NearSays (code_refusal code) (single code) word.now marks.now result message.old message.new work.old work.new }
+) -> Result<u32, Refusal>
+    ensures { NearSays (code_refusal code) (single code) word.now marks.now (answer_of result) message.old message.new work.old work.new }
 {
     decode_near_with(
-        acceptance::code_refusal(code),
+        acceptance::accepted(code),
         acceptance::single(code),
         word,
         marks,
