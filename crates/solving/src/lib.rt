@@ -6,12 +6,14 @@ ghost use Rattle.field.specs.Table.{Powers, Logs};
 ghost use Rattle.code.specs.Laws.{Decodable};
 ghost use Rattle.code.specs.Verdict.{Verdict};
 ghost use Rattle.code.specs.Step.{Received};
+ghost use Rattle.refusal.specs.Refusal.{number_of};
 ghost use Rattle.elimination.specs.Task.{Task};
 ghost use Rattle.solving.specs.Step.{Tried};
 
 use code::Shape;
+use refusal::Refusal;
 
-// Interpolation where the losses are within the guarantee; 11, and nothing written, where they are beyond it.
+// Interpolation where the losses are within the guarantee; None, and nothing written, where they are beyond it.
 pub fn solve_sure(
     shape: Shape,
     word: &[u8],
@@ -19,7 +21,7 @@ pub fn solve_sure(
     message: &mut [u8],
     powers: &[u8; 255],
     logs: &[u8; 256],
-) -> u32
+) -> Option<Result<(), Refusal>>
     requires { Decodable shape × Received shape word.now marks.now × (length message.old ≡ shape.k) × Powers 1 powers.now × Logs logs.now }
     ensures { Tried shape word.now marks.now message.old message.new result }
 {
@@ -27,12 +29,12 @@ pub fn solve_sure(
     let sure = losses::guarantee_of(shape);
     let beyond = lost > sure;
     if beyond {
-        return 11;
+        return None;
     }
-    short_fitting::solve_within(shape, word, marks, message, powers, logs)
+    Some(short_fitting::solve_within(shape, word, marks, message, powers, logs))
 }
 
-// Local repair of a copy, which the last two lent buffers are room for, then interpolation of it; 11, and nothing written to the message,
+// Local repair of a copy, which the last two lent buffers are room for, then interpolation of it; None, and nothing written to the message,
 // where the losses left are beyond the guarantee.
 fn solve_mended(
     shape: Shape,
@@ -43,7 +45,7 @@ fn solve_mended(
     logs: &[u8; 256],
     copy: &mut [u8],
     left: &mut [u8],
-) -> u32
+) -> Option<Result<(), Refusal>>
     requires { Decodable shape × Received shape word.now marks.now × (length message.old ≡ shape.k) × Powers 1 powers.now × Logs logs.now × (length copy.old ≡ shape.n) × (length left.old ≡ shape.n) }
     ensures { Tried shape word.now marks.now message.old message.new result }
 {
@@ -60,9 +62,9 @@ fn solve_broken(
     work: &mut [u8],
     powers: &[u8; 255],
     logs: &[u8; 256],
-) -> u32
+) -> Result<(), Refusal>
     requires { Decodable shape × Task shape word.now marks.now message.old work.old × Powers 1 powers.now × Logs logs.now }
-    ensures { Verdict shape word.now marks.now message.old message.new result × (work.new ≡ replicate (length work.old) 0) }
+    ensures { Verdict shape word.now marks.now message.old message.new (number_of result) × (work.new ≡ replicate (length work.old) 0) }
 {
     let n = shape.n as usize;
     let mut copy = [0u8; 255];
@@ -77,24 +79,33 @@ fn solve_broken(
         &mut copy[..n],
         &mut left[..n],
     );
-    if verdict == 11 {
-        return elimination::solve_beyond(shape, word, marks, message, work, powers, logs);
+    match verdict {
+        Some(decided) => {
+            work.fill(0);
+            decided
+        }
+        None => elimination::solve_beyond(shape, word, marks, message, work, powers, logs),
     }
-    work.fill(0);
-    verdict
 }
 
-// 0: just one message fits, and is written; 9: none; 10: more than one. All of work is left 0.
-pub fn solve(shape: Shape, word: &[u8], marks: &[u8], message: &mut [u8], work: &mut [u8]) -> u32
+// Just one message fits, and is written; or none does, which is Foreign, or more than one, which is Undecided. All of work is left 0.
+pub fn solve(
+    shape: Shape,
+    word: &[u8],
+    marks: &[u8],
+    message: &mut [u8],
+    work: &mut [u8],
+) -> Result<(), Refusal>
     requires { Decodable shape × Task shape word.now marks.now message.old work.old }
-    ensures { Verdict shape word.now marks.now message.old message.new result × (work.new ≡ replicate (length work.old) 0) }
+    ensures { Verdict shape word.now marks.now message.old message.new (number_of result) × (work.new ≡ replicate (length work.old) 0) }
 {
     let powers = tables::power_table();
     let logs = tables::log_table();
-    let verdict = solve_sure(shape, word, marks, message, &powers, &logs);
-    if verdict == 11 {
-        return solve_broken(shape, word, marks, message, work, &powers, &logs);
+    match solve_sure(shape, word, marks, message, &powers, &logs) {
+        Some(decided) => {
+            work.fill(0);
+            decided
+        }
+        None => solve_broken(shape, word, marks, message, work, &powers, &logs),
     }
-    work.fill(0);
-    verdict
 }
