@@ -13,7 +13,7 @@ use Rattle.code.specs.Decoding.{agrees, fits}
 use Rattle.code.specs.Erasure.{grade}
 use Rattle.code.specs.Laws.{Family}
 use Rattle.code.specs.Promise.{GradeTells}
-use Rattle.code.specs.Verdict.{Verdict, one, more}
+use Rattle.code.specs.Verdict.{Verdict}
 use Rattle.code.proofs.Decoding.{fits_intro}
 use Rattle.code.proofs.Verdicts.{more_only, found, two_of_more}
 use Rattle.code.proofs.Graded.{grade_tells, grade_most}

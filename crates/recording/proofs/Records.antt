@@ -1,10 +1,9 @@
 -- What the record says. Assumes nothing.
---   record_refused, record_filled     on a refusal, and where none is
---   numbers_graded                    its numbers, of marks that were counted and graded
+--   record_filled     where no question refuses
+--   numbers_graded    its numbers, of marks that were counted and graded
 use mathlib.Core.Path.{◌≡◌, refl, ap}
-use mathlib.Core.Logic.{◌≢◌}
 use mathlib.Core.List.{List}
-use Prim.Native.Nat.{ℕ, zero, suc}
+use Prim.Native.Nat.{ℕ}
 use lib.ListN.{length}
 use Rattle.code.specs.declared.Code.{Code}
 use Rattle.code.specs.declared.Shape.{Shape}
@@ -12,24 +11,13 @@ use Rattle.code.specs.Codeword.{guarantee}
 use Rattle.decode.specs.Decode.{decode_refusal}
 use Rattle.grading.specs.Step.{graded}
 use Rattle.grading.specs.declared.Graded.{Graded}
-use Rattle.recording.specs.Recording.{blank, Numbers, Filled, RecordAs, RecordSays}
+use Rattle.recording.specs.Recording.{Recorded, Numbers, Filled, RecordAs, RecordSays}
 use Rattle.recording.specs.declared.Outcome.{Outcome}
-use Rattle.recording.specs.declared.Recorded.{Recorded}
 
-module _ (n : ℕ) (s : Shape) (ws ms a : List ℕ) (c : Code) where
-  pub record_refused : (w : List ℕ) {x : Recorded} → x.refusal ≡ decode_refusal n s ws ms (length a) (length w) → x.refusal ≢ 0 → x.record ≡ blank
-      → RecordSays n c s ws ms x a a w w
-  unfolding RecordSays RecordAs
-  record_refused w {x} e h b = go (decode_refusal n s ws ms (length a) (length w)) e
-    where
-      go : (y : ℕ) → x.refusal ≡ y → RecordAs y c s ws ms x a a w w
-      go zero p = absurd (h p)
-      go (suc y) p = record { refusal = p; record_blank = b; message = refl; work = refl }
-
-  pub record_filled : (z w v : List ℕ) {x : Recorded} → decode_refusal n s ws ms (length a) (length w) ≡ 0 → Filled c s ws ms x a z w v
-      → RecordSays n c s ws ms x a z w v
-  unfolding RecordSays RecordAs
-  record_filled z w v e F = rw e F
+pub record_filled : (n : ℕ) (s : Shape) (ws ms a : List ℕ) (c : Code) (z w v : List ℕ) {x : Recorded} → decode_refusal n s ws ms (length a) (length w) ≡ 0
+    → Filled c s ws ms x a z w v → RecordSays n c s ws ms x a z w v
+unfolding RecordSays RecordAs
+record_filled n s ws ms a c z w v e F = rw e F
 
 pub numbers_graded : (c : Code) (s : Shape) (ms : List ℕ) (x : Graded) (v : ℕ) (o : Outcome) → x ≡ graded s ms → v ≡ guarantee s
     → Numbers c s ms (record { code = c; lost = x.lost; guarantee = v; grade = x.grade; first = x.first; outcome = o })

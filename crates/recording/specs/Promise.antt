@@ -12,8 +12,7 @@ use Rattle.code.specs.Decoding.{agrees}
 use Rattle.code.specs.Laws.{Family}
 use Rattle.grading.specs.Grade.{grade_refusal, GradeSays}
 use Rattle.decode.specs.Decode.{decode_refusal, DecodeSays}
-use Rattle.recording.specs.Recording.{outcome_number, RecordSays}
-use Rattle.recording.specs.declared.Recorded.{Recorded}
+use Rattle.recording.specs.Recording.{outcome_number, Recorded, RecordSays}
 
 -- y is what grade answers of the marks ms, x what decode answers of the word ws with them
 pub record Beside (s : Shape) (ws ms : List ℕ) (y : Answer) (x : ℕ) : Type 0 where

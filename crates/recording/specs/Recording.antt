@@ -1,8 +1,9 @@
 -- A stripe's record. Assumes nothing: these are definitions.
 --   outcome_number    the paper's number of every outcome: what decode answers
 --   blank             the record of a refusal: every field 0 and the outcome undecided
+--   recorded_of r     == what the call answers, as one record: a refusal's number with the blank record
 --   RecordSays       the record with decode's verdict, or on a refusal 1 to 8 or 17 the blank one and unchanged buffers
-use Rattle.std.specs.Prelude.{◌≡◌, List, ℕ, zero, suc, length}
+use Rattle.std.specs.Prelude.{◌≡◌, List, ℕ, zero, suc, length, Result, Ok, Err}
 use Rattle.code.specs.Codeword.{guarantee}
 use Rattle.code.specs.Erasure.{lost_number, grade, first_broken}
 use Rattle.code.specs.declared.Code.{Code}
@@ -13,7 +14,13 @@ use Rattle.decode.specs.Decode.{decode_refusal}
 use Rattle.recording.specs.declared.Outcome.{Outcome}
 use Rattle.recording.specs.declared.Outcome.TheVariants.{Decided, Foreign, Undecided}
 use Rattle.recording.specs.declared.StripeRecord.{StripeRecord}
-use Rattle.recording.specs.declared.Recorded.{Recorded}
+use Rattle.refusal.specs.Refusal.{number}
+use Rattle.refusal.specs.declared.Refusal.{Refusal}
+
+-- a refusal number, and a record that is blank on a refusal
+pub record Recorded : Type 0 where
+  pub refusal : ℕ
+  pub «record» : StripeRecord
 
 unfoldable pub outcome_number : Outcome → ℕ
 outcome_number Decided = 0
@@ -30,6 +37,10 @@ blank =
       first = 0;
       outcome = Undecided;
     }
+
+abbrev pub recorded_of : Result StripeRecord Refusal → Recorded
+recorded_of (Ok x) = record { refusal = 0; «record» = x }
+recorded_of (Err e) = record { refusal = number e; «record» = blank }
 
 -- the numbers of a stripe of the code c, whose shape is s
 pub record Numbers (c : Code) (s : Shape) (ms : List ℕ) (x : StripeRecord) : Type 0 where

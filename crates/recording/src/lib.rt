@@ -4,10 +4,12 @@
 ghost use Rattle.std.specs.Prelude.{◌≡◌};
 ghost use Rattle.code.specs.Family.{single, code_refusal};
 ghost use Rattle.code.specs.Laws.{Decodable};
-ghost use Rattle.recording.specs.Recording.{outcome_number, blank, RecordSays};
-ghost use Rattle.recording.specs.Step.{IsVerdict};
+ghost use Rattle.decode.specs.Step.{IsVerdict};
+ghost use Rattle.refusal.specs.Refusal.{number_of};
+ghost use Rattle.recording.specs.Recording.{outcome_number, recorded_of, RecordSays};
 
 use code::{Code, Shape};
+use refusal::Refusal;
 
 // What became of a stripe: its message is decided, no codeword agrees, or more than one does.
 #[derive(Clone, Copy)]
@@ -28,26 +30,21 @@ pub struct StripeRecord {
     pub outcome: Outcome,
 }
 
-// A refusal number, and a record that is blank on a refusal.
-#[derive(Clone, Copy)]
-pub struct Recorded {
-    pub refusal: u32,
-    pub record: StripeRecord,
-}
-
-// The outcome that a verdict 0, 9 or 10 stands for.
-fn outcome_of(verdict: u32) -> Outcome
-    requires { IsVerdict verdict }
-    ensures { outcome_number result ≡ verdict }
+// The outcome that a verdict stands for: no codeword and more than one are outcomes too.
+#[tactic(auto, unfolding(crate::specs::Recording::outcome_number))]
+fn outcome_of(verdict: Result<(), Refusal>) -> Outcome
+    requires { IsVerdict (number_of verdict) }
+    ensures { outcome_number result ≡ number_of verdict }
 {
     match verdict {
-        0 => Outcome::Decided,
-        9 => Outcome::Foreign,
-        _ => Outcome::Undecided,
+        Ok(()) => Outcome::Decided,
+        Err(Refusal::Foreign) => Outcome::Foreign,
+        Err(_) => Outcome::Undecided,
     }
 }
 
 // The paper's number of an outcome.
+#[tactic(auto, unfolding(crate::specs::Recording::outcome_number))]
 pub fn outcome_number(outcome: Outcome) -> u32
     ensures { result ≡ outcome_number outcome }
 {
@@ -58,61 +55,33 @@ pub fn outcome_number(outcome: Outcome) -> u32
     }
 }
 
-// The record of a refusal: every field 0, and undecided.
-fn blank_record() -> StripeRecord
-    ensures { result ≡ blank }
-{
-    let code = Code {
-        field: 0,
-        r: 0,
-        n: 0,
-        k: 0,
-        wiring: 0,
-    };
-    StripeRecord {
-        code,
-        lost: 0,
-        guarantee: 0,
-        grade: 0,
-        first: 0,
-        outcome: Outcome::Undecided,
-    }
-}
-
-// The record of any family: after its code's refusal.
+// The record of any family: after the questions on its numbers.
+#[tactic(auto, using(refusal::proofs::Refusals::chain, decode::proofs::Refusals::handed), unfolding(crate::specs::Recording::RecordSays, crate::specs::Recording::RecordAs))]
 pub fn record_with(
-    refusal: u32,
+    asked: Result<(), Refusal>,
     code: Code,
     shape: Shape,
     word: &[u8],
     marks: &[u8],
     message: &mut [u8],
     work: &mut [u8],
-) -> Recorded
-    requires { refusal ≡ 0 → Decodable shape }
-    ensures { RecordSays refusal code shape word.now marks.now result message.old message.new work.old work.new }
+) -> Result<StripeRecord, Refusal>
+    requires { number_of asked ≡ 0 → Decodable shape }
+    ensures { RecordSays (number_of asked) code shape word.now marks.now (recorded_of result) message.old message.new work.old work.new }
 {
-    let asked = decode::decode_refusal(refusal, shape, word, marks, message.len(), work.len());
-    if asked != 0 {
-        let record = blank_record();
-        return Recorded {
-            refusal: asked,
-            record,
-        };
-    }
+    decode::decode_asked(asked, shape, word, marks, message.len(), work.len())?;
     let verdict = decode::settle(shape, word, marks, message, work);
     let guarantee = losses::guarantee_of(shape);
     let seen = grading::graded_in(shape, marks, work);
     let outcome = outcome_of(verdict);
-    let record = StripeRecord {
+    Ok(StripeRecord {
         code,
         lost: seen.lost,
         guarantee,
         grade: seen.grade,
         first: seen.first,
         outcome,
-    };
-    Recorded { refusal: 0, record }
+    })
 }
 
 // Decodes a stripe and draws up its record; no codeword and more than one are outcomes.
@@ -122,11 +91,11 @@ pub fn record(
     marks: &[u8],
     message: &mut [u8],
     work: &mut [u8],
-) -> Recorded
-    ensures { RecordSays (code_refusal code) code (single code) word.now marks.now result message.old message.new work.old work.new }
+) -> Result<StripeRecord, Refusal>
+    ensures { RecordSays (code_refusal code) code (single code) word.now marks.now (recorded_of result) message.old message.new work.old work.new }
 {
     record_with(
-        acceptance::code_refusal(code),
+        acceptance::accepted(code),
         code,
         acceptance::single(code),
         word,

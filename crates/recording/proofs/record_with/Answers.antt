@@ -5,48 +5,35 @@ use Rattle.code.specs.Work.{cleared}
 use Rattle.code.proofs.Working.{cleared_twice}
 use Rattle.decode.specs.Step.{Handed}
 use Rattle.decode.proofs.Refusals.{handed}
-use Rattle.decode.proofs.Replies.{is_verdict}
-use Rattle.recording.proofs.Records.{record_refused, numbers_graded, record_filled}
+use Rattle.refusal.specs.Refusal.{number_of}
+use Rattle.recording.proofs.Records.{numbers_graded, record_filled}
 use Rattle.recording.proofs.record_with.Goals as goal
-use Rattle.recording.proofs.record_with.Goals.{Else-asked-ne0}
+use Rattle.recording.proofs.record_with.Goals.{In_ok-decode_asked}
 
 -- what no question refuses
-given : (c : Else-asked-ne0) → let a = c.args in Handed a.shape a.word.now a.marks.now (length a.message.now) (length a.work.now)
+given : (c : In_ok-decode_asked) → let a = c.args in Handed a.shape a.word.now a.marks.now (length a.message.now) (length a.work.now)
 given c =
     let a = c.args in
-    handed a.refusal a.shape a.word.now a.marks.now (length a.message.now) (length a.work.now) c.requires
-    (sym c.decode_refusal-asked.ensures ∙ c.if-asked-ne0.false)
-
-pub returns-then-asked-ne0 : goal.returns-then-asked-ne0
-returns-then-asked-ne0 c =
-    let a = c.args in
-    record_refused a.refusal a.shape a.word.now a.marks.now a.message.now a.code a.work.now c.decode_refusal-asked.ensures
-    c.if-asked-ne0.true c.blank_record-record.ensures
+    handed (number_of a.asked) a.shape a.word.now a.marks.now (length a.message.now) (length a.work.now) c.requires (sym c.in_ok-decode_asked.ensures)
 
 pub settle-verdict-requires : goal.settle-verdict-requires
-settle-verdict-requires c = given (goal.at.settle-verdict-requires c).Else-asked-ne0
+settle-verdict-requires c = given (goal.at.settle-verdict-requires c).In_ok-decode_asked
 
 pub guarantee_of-guarantee-requires : goal.guarantee_of-guarantee-requires
-guarantee_of-guarantee-requires c = let L = (given (goal.at.guarantee_of-guarantee-requires c).Else-asked-ne0).shape.plain in (L.family, L.second_none)
+guarantee_of-guarantee-requires c = let L = (given (goal.at.guarantee_of-guarantee-requires c).In_ok-decode_asked).shape.plain in (L.family, L.second_none)
 
 pub graded_in-seen-requires : goal.graded_in-seen-requires
 graded_in-seen-requires c =
-    let H = given (goal.at.graded_in-seen-requires c).Else-asked-ne0 in
+    let H = given (goal.at.graded_in-seen-requires c).In_ok-decode_asked in
     record { shape = H.shape; marks_size = H.marks_size; work_size = omega (arith, H.work_size, c.settle-verdict.auto.work) }
-
-pub outcome_of-outcome-requires : goal.outcome_of-outcome-requires
-outcome_of-outcome-requires c =
-    let a = c.args in
-    let t = c.settle-verdict in
-    is_verdict a.shape a.word.now a.marks.now a.message.now t.new.message t.result t.ensures.0
 
 pub returns : goal.returns
 returns c =
     let a = c.args in
     let t = c.settle-verdict in
     let g = c.graded_in-seen in
-    record_filled a.refusal a.shape a.word.now a.marks.now a.message.now a.code t.new.message a.work.now
-    g.new.work (sym c.decode_refusal-asked.ensures ∙ c.if-asked-ne0.false)
+    record_filled (number_of a.asked) a.shape a.word.now a.marks.now a.message.now a.code t.new.message a.work.now
+    g.new.work (sym c.in_ok-decode_asked.ensures)
     (record {
       refusal = refl;
       numbers = numbers_graded a.code a.shape a.marks.now g.result c.guarantee_of-guarantee.result c.outcome_of-outcome.result g.ensures.0 c.guarantee_of-guarantee.ensures;
