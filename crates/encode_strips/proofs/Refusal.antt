@@ -1,8 +1,13 @@
 -- The questions of encode of strips. Assumes nothing.
 --   Passed n s ms b                no refusal n before, strips of one length, and symbols below q
 --   strips_passed                  strips that are not refused have these
+<<<<<<< HEAD
 use mathlib.Core.Path.{◌≡◌, ap, ◌∙◌}
 use mathlib.Core.Bool.{◌&&◌}
+=======
+use mathlib.Core.Path.{◌≡◌, refl, sym}
+use mathlib.Core.Bool.{false, ◌&&◌}
+>>>>>>> 83fddedf9af1c6c0d3321269a406c6f6ebc3ad2b
 use mathlib.Core.List.{List}
 use Prim.Native.Nat.{ℕ, ◌*◌, ◌/◌, ◌≤◌}
 use lib.Dec.{T, eqb, leb, eqb→eq, leb→le}
@@ -10,9 +15,9 @@ use lib.ListN.{length}
 use Rattle.algebra.specs.Sequence.{all_below}
 use Rattle.algebra.proofs.Booleans.{and_left, and_right}
 use Rattle.field.specs.Field.{q}
-use Rattle.code.specs.Question.{ask, or_ask}
+use Rattle.code.specs.Question.{ask}
 use Rattle.code.specs.declared.Shape.{Shape}
-use Rattle.code.proofs.Questions.{ask_then, ask_and, asked, or_ask_passed}
+use Rattle.code.proofs.Questions.{asked, or_ask_passed}
 use Rattle.encode_strips.specs.Strips.{strips_are, encode_strips_refusal}
 
 

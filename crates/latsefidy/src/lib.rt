@@ -23,6 +23,7 @@ ghost use Rattle.sheet_binding.specs.Sheet.{ReadFills};
 
 use binding::packed;
 use code::Code;
+use refusal::number_of;
 
 // Encodes a message.
 #[unsafe(no_mangle)]
@@ -37,7 +38,7 @@ pub extern "C" fn latsefidy_encode(
 ) -> u32
     ensures { EncodeSays (code_refusal (code_of field r n k wiring)) (single (code_of field r n k wiring)) message.now result codeword.old codeword.new }
 {
-    encode::encode(
+    number_of(encode::encode(
         Code {
             field,
             r,
@@ -47,7 +48,7 @@ pub extern "C" fn latsefidy_encode(
         },
         message,
         codeword,
-    )
+    ))
 }
 
 // Encodes strips: column c of the codewords is encode of column c of the messages.
@@ -63,7 +64,7 @@ pub extern "C" fn latsefidy_encode_strips(
 ) -> u32
     ensures { EncodeStripsSays (code_refusal (code_of field r n k wiring)) (single (code_of field r n k wiring)) messages.now result codewords.old codewords.new }
 {
-    encode_strips::encode_strips(
+    number_of(encode_strips::encode_strips(
         Code {
             field,
             r,
@@ -73,7 +74,7 @@ pub extern "C" fn latsefidy_encode_strips(
         },
         messages,
         codewords,
-    )
+    ))
 }
 
 // Writes the sixteen repair weights of a slot.
@@ -89,7 +90,7 @@ pub extern "C" fn latsefidy_weights(
 ) -> u32
     ensures { WeightsFill (code_of field r n k wiring) slot result weights.old weights.new }
 {
-    binding::weights_into(
+    number_of(binding::weights_into(
         Code {
             field,
             r,
@@ -99,7 +100,7 @@ pub extern "C" fn latsefidy_weights(
         },
         slot,
         weights,
-    )
+    ))
 }
 
 // The symbol of a slot from its mates' symbols.
@@ -142,7 +143,7 @@ pub extern "C" fn latsefidy_rebuild(
 ) -> u32
     ensures { RebuildSays (code_refusal (code_of field r n k wiring)) (single (code_of field r n k wiring)) slot strips.now result out.old out.new }
 {
-    repair::rebuild(
+    number_of(repair::rebuild(
         Code {
             field,
             r,
@@ -153,7 +154,7 @@ pub extern "C" fn latsefidy_rebuild(
         slot,
         strips,
         out,
-    )
+    ))
 }
 
 // The first slot of a slot's group in a word.
@@ -223,7 +224,7 @@ pub extern "C" fn latsefidy_decode(
 ) -> u32
     ensures { DecodeSays (code_refusal (code_of field r n k wiring)) (single (code_of field r n k wiring)) word.now marks.now result message.old message.new work.old work.new }
 {
-    decode::decode(
+    number_of(decode::decode(
         Code {
             field,
             r,
@@ -235,7 +236,7 @@ pub extern "C" fn latsefidy_decode(
         marks,
         message,
         work,
-    )
+    ))
 }
 
 // Decodes after the local pass on a copy, and counts the groups that it mended.
@@ -309,7 +310,7 @@ pub extern "C" fn latsefidy_preview(
 ) -> u32
     ensures { PreviewFills (code_of field r n k wiring) slot marks.now result work.old work.new preview.old preview.new }
 {
-    preview_binding::preview_into(
+    number_of(preview_binding::preview_into(
         Code {
             field,
             r,
@@ -321,7 +322,7 @@ pub extern "C" fn latsefidy_preview(
         marks,
         work,
         preview,
-    )
+    ))
 }
 
 // Decodes a stripe and writes its record.
@@ -340,7 +341,7 @@ pub extern "C" fn latsefidy_record(
 ) -> u32
     ensures { RecordFills (code_of field r n k wiring) word.now marks.now result message.old message.new work.old work.new numbers.old numbers.new }
 {
-    record_binding::record_into(
+    number_of(record_binding::record_into(
         Code {
             field,
             r,
@@ -353,7 +354,7 @@ pub extern "C" fn latsefidy_record(
         message,
         work,
         numbers,
-    )
+    ))
 }
 
 // Reads a stripe sheet.
@@ -366,7 +367,7 @@ pub extern "C" fn latsefidy_read_sheet(
 ) -> u32
     ensures { ReadFills sheet.now result word.old word.new marks.old marks.new code.old code.new }
 {
-    sheet_binding::read_into(sheet, word, marks, code)
+    number_of(sheet_binding::read_into(sheet, word, marks, code))
 }
 
 // Writes a stripe sheet.
@@ -383,7 +384,7 @@ pub extern "C" fn latsefidy_write_sheet(
 ) -> u32
     ensures { WriteSays (code_of field r n k wiring) word.now marks.now result sheet.old sheet.new }
 {
-    sheet::write_sheet(
+    number_of(sheet::write_sheet(
         Code {
             field,
             r,
@@ -394,7 +395,7 @@ pub extern "C" fn latsefidy_write_sheet(
         word,
         marks,
         sheet,
-    )
+    ))
 }
 
 // Writes the report of a sheet, of which at most the first 1,032 bytes are judged.

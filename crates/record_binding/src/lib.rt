@@ -2,12 +2,15 @@
 #![tactic(auto)]
 
 ghost use Rattle.std.specs.Prelude.{◌≡◌, length};
+ghost use Rattle.refusal.specs.Refusal.{number_of};
 ghost use Rattle.record_binding.specs.Record.{numbers_of, RecordFills};
 
 use code::Code;
 use recording::StripeRecord;
+use refusal::{Refusal, require};
 
 // Writes the ten numbers of a record.
+#[tactic(auto, unfolding(binding::specs::Pack::code_row, crate::specs::Record::numbers_of))]
 fn put_record(stripe: StripeRecord, numbers: &mut [u32])
     requires { length numbers.old ≡ 10 }
     ensures { numbers.new ≡ numbers_of stripe }
@@ -27,10 +30,11 @@ fn put_record(stripe: StripeRecord, numbers: &mut [u32])
         stripe.first,
         number,
     ];
-    copying::copy_numbers(&row, numbers);
+    numbers.copy_from_slice(&row);
 }
 
 // Decodes a stripe and writes the ten numbers of its record.
+#[tactic(auto, using(refusal::proofs::Refusals::chain), unfolding(code::specs::Question::ask, code::specs::Question::or_ask, decode::specs::Decode::decode_refusal, recording::specs::Recording::RecordSays, recording::specs::Recording::RecordAs, crate::specs::Record::record_refusal, crate::specs::Record::RecordFills, crate::specs::Record::RecordFillsAs))]
 pub fn record_into(
     code: Code,
     word: &[u8],
@@ -38,16 +42,13 @@ pub fn record_into(
     message: &mut [u8],
     work: &mut [u8],
     numbers: &mut [u32],
-) -> u32
-    ensures { RecordFills code word.now marks.now result message.old message.new work.old work.new numbers.old numbers.new }
+) -> Result<(), Refusal>
+    ensures { RecordFills code word.now marks.now (number_of result) message.old message.new work.old work.new numbers.old numbers.new }
 {
-    let asked = questions::ask(acceptance::code_refusal(code), numbers.len() == 10, 5);
+    acceptance::accepted(code)?;
+    require(numbers.len() == 10, Refusal::Buffers)?;
     let shape = acceptance::single(code);
-    let drawn = recording::record_with(asked, code, shape, word, marks, message, work);
-    let refused = drawn.refusal;
-    if refused != 0 {
-        return refused;
-    }
-    put_record(drawn.record, numbers);
-    0
+    let drawn = recording::record_with(Ok(()), code, shape, word, marks, message, work)?;
+    put_record(drawn, numbers);
+    Ok(())
 }
