@@ -1,13 +1,8 @@
 -- The questions of encode of strips. Assumes nothing.
 --   Passed n s ms b                no refusal n before, strips of one length, and symbols below q
 --   strips_passed                  strips that are not refused have these
-<<<<<<< HEAD
 use mathlib.Core.Path.{◌≡◌, ap, ◌∙◌}
 use mathlib.Core.Bool.{◌&&◌}
-=======
-use mathlib.Core.Path.{◌≡◌, refl, sym}
-use mathlib.Core.Bool.{false, ◌&&◌}
->>>>>>> 83fddedf9af1c6c0d3321269a406c6f6ebc3ad2b
 use mathlib.Core.List.{List}
 use Prim.Native.Nat.{ℕ, ◌*◌, ◌/◌, ◌≤◌}
 use lib.Dec.{T, eqb, leb, eqb→eq, leb→le}
@@ -19,7 +14,6 @@ use Rattle.code.specs.Question.{ask}
 use Rattle.code.specs.declared.Shape.{Shape}
 use Rattle.code.proofs.Questions.{asked, or_ask_passed}
 use Rattle.encode_strips.specs.Strips.{strips_are, encode_strips_refusal}
-
 
 pub record Passed (n : ℕ) (s : Shape) (ms : List ℕ) (b : ℕ) : Type 0 where
   pub accepted : n ≡ 0

@@ -1,10 +1,4 @@
-<<<<<<< HEAD
 use mathlib.Core.Path.{ap, ◌∙◌}
-=======
-use mathlib.Core.Path.{sym, ap, ◌∙◌}
-use Prim.Native.Nat.{◌*◌}
-use native.Mathlib.Nat.{le_of_eq}
->>>>>>> 83fddedf9af1c6c0d3321269a406c6f6ebc3ad2b
 use native.Mathlib.Omega.{arith}
 use lib.ListN.{length}
 use Rattle.algebra.specs.Sequence.{column}

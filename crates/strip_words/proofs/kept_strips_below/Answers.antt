@@ -1,12 +1,6 @@
-<<<<<<< HEAD
 use Rattle.std.proofs.Common.{◌≡◌, ◌∙◌, Bool, true, false, ℕ, refl, ap, arith, rules, tests}
 use Rattle.std.proofs.lemmas.Iterator.{cases_from_all, YieldsList-from_range}
 use Rattle.std.specs.List.{range_with_len}
-=======
-use mathlib.Core.Path.{refl}
-use mathlib.Core.Path.{sym, ap, ◌∙◌}
-use native.Mathlib.Omega.{arith}
->>>>>>> 83fddedf9af1c6c0d3321269a406c6f6ebc3ad2b
 use Rattle.algebra.specs.Sequence.{every}
 use Rattle.strip_words.specs.Strips.{strip_below, kept_strips_below}
 use Rattle.strip_words.proofs.Chains.{all_decided, list_range}

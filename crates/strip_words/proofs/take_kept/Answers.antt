@@ -1,8 +1,4 @@
 use mathlib.Core.Path.{refl, ◌∙◌}
-<<<<<<< HEAD
-=======
-use Prim.Native.Nat.{◌<◌}
->>>>>>> 83fddedf9af1c6c0d3321269a406c6f6ebc3ad2b
 use native.Mathlib.Omega.{arith}
 use lib.ListN.{length}
 use Rattle.algebra.proofs.Filling.{filled_all}
