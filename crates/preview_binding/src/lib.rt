@@ -1,28 +1,28 @@
 // The preview as C takes it: three numbers in a buffer.
 #![tactic(auto)]
 
+ghost use Rattle.refusal.specs.Refusal.{number_of};
 ghost use Rattle.preview_binding.specs.Preview.{PreviewFills};
 
 use code::Code;
+use refusal::{Refusal, require};
 
 // Previews the loss of a slot, and writes the number lost, the grade and the first broken group that follow.
+#[tactic(auto, using(refusal::proofs::Refusals::chain), unfolding(code::specs::Question::ask, code::specs::Question::or_ask, previewing::specs::Preview::preview_refusal, crate::specs::Preview::fill_refusal, crate::specs::Preview::PreviewFills, crate::specs::Preview::PreviewFillsAs))]
 pub fn preview_into(
     code: Code,
     slot: u32,
     marks: &[u8],
     work: &mut [u8],
     numbers: &mut [u32],
-) -> u32
-    ensures { PreviewFills code slot marks.now result work.old work.new numbers.old numbers.new }
+) -> Result<(), Refusal>
+    ensures { PreviewFills code slot marks.now (number_of result) work.old work.new numbers.old numbers.new }
 {
-    let asked = questions::ask(acceptance::code_refusal(code), numbers.len() == 3, 5);
+    acceptance::accepted(code)?;
+    require(numbers.len() == 3, Refusal::Buffers)?;
     let shape = acceptance::single(code);
-    let seen = previewing::preview_with(asked, shape, slot, marks, work);
-    let refused = seen.refusal;
-    if refused != 0 {
-        return refused;
-    }
+    let seen = previewing::preview_with(Ok(()), shape, slot, marks, work)?;
     let row = [seen.lost, seen.grade, seen.first];
-    copying::copy_numbers(&row, numbers);
-    0
+    numbers.copy_from_slice(&row);
+    Ok(())
 }
