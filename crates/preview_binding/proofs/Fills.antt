@@ -9,7 +9,7 @@ use lib.Dec.{eqb}
 use lib.ListN.{length}
 use Rattle.code.specs.declared.Code.{Code}
 use Rattle.code.specs.declared.Shape.{Shape}
-use Rattle.code.specs.Question.{ask, or_ask}
+use Rattle.code.specs.Question.{ask}
 use Rattle.code.specs.Family.{single, code_refusal}
 use Rattle.code.proofs.Questions.{or_ask_on}
 use Rattle.previewing.specs.Preview.{Previewed}
@@ -18,15 +18,16 @@ use Rattle.preview_binding.specs.Preview.{numbers_of, fill_refusal, PreviewFills
 
 -- g and q are what was asked before the call, and y is what it has answered
 module _ (c : Code) (s : Shape) (i : s ≡ single c) (p : ℕ) (ms w t : List ℕ) (g : 0 ≡ code_refusal c) (q : 0 ≡ ask (eqb (length t) 3) 5 0) where
-  none : or_ask (code_refusal c) (ask (eqb (length t) 3) 5 0) ≡ 0
-  none = sym (or_ask_on (code_refusal c) _ 0 (sym g) q)
+  none : fill_refusal c p ms (length w) (length t) ≡ preview_refusal 0 (single c) p ms (length w)
+  unfolding fill_refusal
+  none = ap (λ n. preview_refusal n (single c) p ms (length w)) (sym (or_ask_on (code_refusal c) (ask (eqb (length t) 3) 5 0) 0 (sym g) q))
 
   module _ (v : List ℕ) (y : Previewed) (says : PreviewSays 0 s p ms y w v) where
     on : PreviewSays 0 (single c) p ms y w v
     on = subst (λ h. PreviewSays 0 h p ms y w v) i says
 
     pub fills_no : y.refusal ≢ 0 → PreviewFills c p ms y.refusal w v t t
-    unfolding PreviewFills PreviewFillsAs PreviewSays PreviewAs fill_refusal preview_of no_preview
+    unfolding PreviewFills PreviewFillsAs PreviewSays PreviewAs preview_of no_preview
     fills_no n = rw none (go (preview_refusal 0 (single c) p ms (length w)) on)
       where
         go : (d : ℕ) → PreviewAs d (single c) p ms y w v → PreviewFillsAs d c p ms y.refusal w v t t
@@ -34,7 +35,7 @@ module _ (c : Code) (s : Shape) (i : s ≡ single c) (p : ℕ) (ms w t : List �
         go (suc d) R = (ap (λ x. x.refusal) R.0, R.1, refl)
 
     pub fills_yes : (u : List ℕ) → y.refusal ≡ 0 → u ≡ numbers_of y → PreviewFills c p ms 0 w v t u
-    unfolding PreviewFills PreviewFillsAs PreviewSays PreviewAs fill_refusal no_preview
+    unfolding PreviewFills PreviewFillsAs PreviewSays PreviewAs no_preview
     fills_yes u o e = rw none (go (preview_refusal 0 (single c) p ms (length w)) on)
       where
         go : (d : ℕ) → PreviewAs d (single c) p ms y w v → PreviewFillsAs d c p ms 0 w v t u
