@@ -20,42 +20,35 @@ pub fn class() -> Code {
 
 // The first bytes of a room.
 pub fn front(room: &mut [u8], n: usize) -> &mut [u8] {
-    if n < room.len() {
-        return &mut room[..n];
-    }
-    room
+    let n = n.min(room.len());
+    &mut room[..n]
 }
 
-// The name of a call and its code.
-fn head<W: Write>(output: &mut W, name: &[u8], code: Code) -> Result<()> {
-    output.write_all(name)?;
-    show::put(output, code.field)?;
-    show::put(output, code.r)?;
-    show::put(output, code.n)?;
-    show::put(output, code.k)?;
-    show::put(output, code.wiring)?;
-    output.write_all(b"= ")
-}
-
-// The line of a call with a refusal and bytes.
-pub fn put_bytes<W: Write>(
+// The line of a call: its name and code, the numbers that it answered, and bytes.
+pub fn put_call<W: Write>(
     output: &mut W,
-    name: &[u8],
+    name: &str,
     code: Code,
-    refusal: u32,
+    numbers: &[u32],
     bytes: &[u8],
 ) -> Result<()> {
-    head(output, name, code)?;
-    show::put(output, refusal)?;
+    let Code {
+        field,
+        r,
+        n,
+        k,
+        wiring,
+    } = code;
+    write!(output, "{name} {field} {r} {n} {k} {wiring} = ")?;
+    for number in numbers {
+        show::put(output, *number)?;
+    }
     show::put_line(output, bytes)
 }
 
 // The line of a call with a refusal and a value.
-fn put_value<W: Write>(output: &mut W, name: &[u8], code: Code, answer: Answer) -> Result<()> {
-    head(output, name, code)?;
-    show::put(output, answer.refusal)?;
-    show::put(output, answer.value)?;
-    output.write_all(b"\n")
+fn put_value<W: Write>(output: &mut W, name: &str, code: Code, answer: Answer) -> Result<()> {
+    put_call(output, name, code, &[answer.refusal, answer.value], &[])
 }
 
 // Encodes a message to a buffer of a length.
@@ -63,19 +56,19 @@ pub fn encodes<W: Write>(output: &mut W, code: Code, message: &[u8], length: usi
     let mut room = [0u8; 12];
     let codeword = front(&mut room, length);
     let refusal = encode::encode(code, message, codeword);
-    put_bytes(output, b"encode ", code, refusal, codeword)
+    put_call(output, "encode", code, &[refusal], codeword)
 }
 
 // The repair weights of a slot.
 pub fn weighs<W: Write>(output: &mut W, code: Code, slot: u32) -> Result<()> {
     let answer = weights::weights(code, slot);
     let weights = answer.weights;
-    put_bytes(output, b"weights ", code, answer.refusal, &weights)
+    put_call(output, "weights", code, &[answer.refusal], &weights)
 }
 
 // Repairs a slot from its mates' symbols.
 pub fn repairs<W: Write>(output: &mut W, code: Code, slot: u32, mates: &[u8]) -> Result<()> {
-    put_value(output, b"repair ", code, repair::repair(code, slot, mates))
+    put_value(output, "repair", code, repair::repair(code, slot, mates))
 }
 
 // Rebuilds a strip of a length from its mates' strips.
@@ -89,19 +82,14 @@ pub fn rebuilds<W: Write>(
     let mut room = [0u8; 3];
     let strip = front(&mut room, length);
     let refusal = repair::rebuild(code, slot, strips, strip);
-    put_bytes(output, b"rebuild ", code, refusal, strip)
+    put_call(output, "rebuild", code, &[refusal], strip)
 }
 
 // Looks at a slot's group in a word.
 pub fn views<W: Write>(output: &mut W, code: Code, slot: u32, word: &[u8]) -> Result<()> {
     let refusal = view::group_view_refusal(code, slot, word);
-    put_bytes(
-        output,
-        b"view ",
-        code,
-        refusal,
-        view::group_view(code, slot, word),
-    )
+    let seen = view::group_view(code, slot, word);
+    put_call(output, "view", code, &[refusal], seen)
 }
 
 // The lines of the local pass.
@@ -112,34 +100,19 @@ pub fn put_mended<W: Write>(
     word: &[u8],
     marks: &[u8],
 ) -> Result<()> {
-    put_value(output, b"pass ", code, answer)?;
+    put_value(output, "pass", code, answer)?;
     show::put_line(output, word)?;
     show::put_line(output, marks)
 }
 
 // The first group with more losses than it stands.
 pub fn breaks<W: Write>(output: &mut W, code: Code, marks: &[u8]) -> Result<()> {
-    put_value(output, b"first ", code, erasures::first_broken(code, marks))
+    put_value(output, "first", code, erasures::first_broken(code, marks))
 }
 
 // Work for the longest code, which need not be clear.
 fn work_room() -> [u8; 61455] {
     [7u8; 61455]
-}
-
-// The line of a decode, with the grade of its marks.
-fn put_decoded<W: Write>(
-    output: &mut W,
-    code: Code,
-    grade: Answer,
-    refusal: u32,
-    message: &[u8],
-) -> Result<()> {
-    head(output, b"decode ", code)?;
-    show::put(output, refusal)?;
-    show::put(output, grade.refusal)?;
-    show::put(output, grade.value)?;
-    show::put_line(output, message)
 }
 
 // Decodes the kept symbols of a word, and grades the marks, with so many bytes of work.
@@ -155,15 +128,8 @@ pub fn decodes<W: Write>(
     let message = front(&mut room, code.k as usize);
     let refusal = decode::decode(code, word, marks, message, front(&mut work, used));
     let grade = grading::grade(code, marks, front(&mut work, used));
-    put_decoded(output, code, grade, refusal, message)
-}
-
-// The line of a decoding that mends first.
-fn put_near<W: Write>(output: &mut W, code: Code, answer: Answer, message: &[u8]) -> Result<()> {
-    head(output, b"near ", code)?;
-    show::put(output, answer.refusal)?;
-    show::put(output, answer.value)?;
-    show::put_line(output, message)
+    let answers = [refusal, grade.refusal, grade.value];
+    put_call(output, "decode", code, &answers, message)
 }
 
 // Decodes the kept symbols of a word after the local pass, with so many bytes of work.
@@ -178,7 +144,43 @@ pub fn nears<W: Write>(
     let mut work = work_room();
     let message = front(&mut room, code.k as usize);
     let answer = decode_near::decode_near(code, word, marks, message, front(&mut work, used));
-    put_near(output, code, answer, message)
+    put_call(
+        output,
+        "near",
+        code,
+        &[answer.refusal, answer.value],
+        message,
+    )
+}
+
+// Decodes as it is and after the local pass.
+pub fn decodes_both<W: Write>(
+    output: &mut W,
+    code: Code,
+    word: &[u8],
+    marks: &[u8],
+    used: usize,
+) -> Result<()> {
+    decodes(output, code, word, marks, used)?;
+    nears(output, code, word, marks, used)
+}
+
+// Encodes, and spoils two symbols of the word.
+pub fn spoiled<W: Write, const N: usize>(
+    output: &mut W,
+    code: Code,
+    message: &[u8],
+    slots: [usize; 2],
+) -> Result<[u8; N]> {
+    let mut word = [0u8; N];
+    let refusal = encode::encode(code, message, &mut word);
+    put_call(output, "encode", code, &[refusal], &word)?;
+    for slot in slots {
+        if let Some(symbol) = word.get_mut(slot) {
+            *symbol = 255;
+        }
+    }
+    Ok(word)
 }
 
 // Previews the loss of a slot, with so many bytes of work.
@@ -191,10 +193,6 @@ pub fn previews<W: Write>(
 ) -> Result<()> {
     let mut work = work_room();
     let seen = previewing::preview(code, slot, marks, front(&mut work, used));
-    head(output, b"preview ", code)?;
-    show::put(output, seen.refusal)?;
-    show::put(output, seen.lost)?;
-    show::put(output, seen.grade)?;
-    show::put(output, seen.first)?;
-    output.write_all(b"\n")
+    let answers = [seen.refusal, seen.lost, seen.grade, seen.first];
+    put_call(output, "preview", code, &answers, &[])
 }

@@ -4,25 +4,18 @@ use code::Code;
 use std::io::{Result, Write};
 
 // Symbol i of a message: 3, 10, 17 and so on in the field.
-fn symbol(field: u32, i: u32) -> u8 {
-    let x = i % 65536 * 7 + 3;
-    if field == 0 {
-        return (x % 13) as u8;
-    }
-    (x % 256) as u8
-}
-
-// Fills a message with such symbols.
-fn fill(field: u32, message: &mut [u8]) {
-    for i in 0..message.len() {
-        message[i] = symbol(field, (i % 65536) as u32);
-    }
+fn symbol(field: u32, i: u8) -> u8 {
+    let x = u32::from(i) * 7 + 3;
+    let order = if field == 0 { 13 } else { 256 };
+    (x % order) as u8
 }
 
 // Room with such symbols for a message.
 fn symbols(field: u32) -> [u8; 240] {
     let mut room = [0u8; 240];
-    fill(field, &mut room);
+    for (i, x) in (0..240u8).zip(room.iter_mut()) {
+        *x = symbol(field, i);
+    }
     room
 }
 
@@ -40,18 +33,9 @@ fn spoiled<W: Write>(output: &mut W, code: Code) -> Result<[u8; 255]> {
     let message = calls::front(&mut message_room, code.k as usize);
     let word = calls::front(&mut word_room, code.n as usize);
     let refusal = encode::encode(code, message, word);
-    calls::put_bytes(output, b"encode ", code, refusal, word)?;
+    calls::put_call(output, "encode", code, &[refusal], word)?;
     word_room[0] = 255;
     Ok(word_room)
-}
-
-// The last slot.
-fn last_slot(code: Code) -> u32 {
-    let n = code.n;
-    if n == 0 {
-        return 0;
-    }
-    n - 1
 }
 
 // Encodes, loses the first slot, decodes both ways with so many bytes of work, previews the loss of the last slot, and mends the first.
@@ -61,9 +45,8 @@ fn corner<W: Write>(output: &mut W, code: Code, used: usize) -> Result<()> {
     let n = code.n as usize;
     let word = calls::front(&mut word_room, n);
     let marks = calls::front(&mut marks_room, n);
-    calls::decodes(output, code, word, marks, used)?;
-    calls::nears(output, code, word, marks, used)?;
-    calls::previews(output, code, last_slot(code), marks, used)?;
+    calls::decodes_both(output, code, word, marks, used)?;
+    calls::previews(output, code, code.n.saturating_sub(1), marks, used)?;
     let answer = pass::local_pass(code, word, marks);
     calls::put_mended(output, code, answer, word, marks)
 }

@@ -3,24 +3,6 @@ use crate::calls;
 use code::Code;
 use std::io::{Result, Write};
 
-// Room for marks, of which the first and the last say lost: one in a whole group, one in the short.
-fn ends_lost() -> [u8; 11] {
-    let mut marks = [0u8; 11];
-    marks[0] = 1;
-    marks[10] = 1;
-    marks
-}
-
-// Encodes, and spoils the first and the last symbol.
-fn spoiled<W: Write>(output: &mut W, code: Code, message: &[u8]) -> Result<[u8; 11]> {
-    let mut word = [0u8; 11];
-    let refusal = encode::encode(code, message, &mut word);
-    calls::put_bytes(output, b"encode ", code, refusal, &word)?;
-    word[0] = 255;
-    word[10] = 255;
-    Ok(word)
-}
-
 // The repair of the last slots from one mate.
 fn repairs<W: Write>(output: &mut W, code: Code) -> Result<()> {
     calls::weighs(output, code, 9)?;
@@ -39,8 +21,7 @@ fn counts<W: Write>(output: &mut W, code: Code) -> Result<()> {
 
 // Decodes as it is and after the local pass, with so much work as a code with k 5 wants.
 fn decodes<W: Write>(output: &mut W, code: Code, word: &[u8], marks: &[u8]) -> Result<()> {
-    calls::decodes(output, code, word, marks, 66)?;
-    calls::nears(output, code, word, marks, 66)
+    calls::decodes_both(output, code, word, marks, 66)
 }
 
 // Losses within the guarantee, which is 4; at it; beyond it and decided; and undecided.
@@ -105,14 +86,14 @@ fn breaks<W: Write>(output: &mut W, code: Code) -> Result<()> {
 
 // Every call on a code with k 5.
 fn short_code<W: Write>(output: &mut W, code: Code, message: &[u8]) -> Result<()> {
-    let mut word = spoiled(output, code, message)?;
+    let mut word: [u8; 11] = calls::spoiled(output, code, message, [0, 10])?;
     repairs(output, code)?;
     counts(output, code)?;
     calls::views(output, code, 9, &word)?;
     loses(output, code, &word)?;
     previews(output, code)?;
     breaks(output, code)?;
-    let mut marks = ends_lost();
+    let mut marks = [1u8, 0, 0, 0, 0, 0, 0, 0, 0, 0, 1];
     let answer = pass::local_pass(code, &mut word, &mut marks);
     calls::put_mended(output, code, answer, &word, &marks)
 }

@@ -3,24 +3,6 @@ use crate::calls;
 use code::Code;
 use std::io::{Result, Write};
 
-// Room for marks, of which the first two say lost: one in each of two groups.
-fn two_lost() -> [u8; 9] {
-    let mut marks = [0u8; 9];
-    marks[0] = 1;
-    marks[1] = 1;
-    marks
-}
-
-// Encodes, and spoils the first two symbols.
-fn spoiled<W: Write>(output: &mut W, code: Code, message: &[u8]) -> Result<[u8; 9]> {
-    let mut word = [0u8; 9];
-    let refusal = encode::encode(code, message, &mut word);
-    calls::put_bytes(output, b"encode ", code, refusal, &word)?;
-    word[0] = 255;
-    word[1] = 255;
-    Ok(word)
-}
-
 // The repair of slot 4, and its group, which no view shows, whatever the word's length.
 fn repairs<W: Write>(output: &mut W, code: Code) -> Result<()> {
     calls::weighs(output, code, 4)?;
@@ -31,8 +13,7 @@ fn repairs<W: Write>(output: &mut W, code: Code) -> Result<()> {
 
 // Decodes as it is and after the local pass, with so much work as a code with k 4 wants.
 fn decodes<W: Write>(output: &mut W, code: Code, word: &[u8], marks: &[u8]) -> Result<()> {
-    calls::decodes(output, code, word, marks, 45)?;
-    calls::nears(output, code, word, marks, 45)
+    calls::decodes_both(output, code, word, marks, 45)
 }
 
 // Losses at the guarantee, which is 4; beyond it and decided; and undecided.
@@ -56,12 +37,12 @@ fn breaks<W: Write>(output: &mut W, code: Code) -> Result<()> {
 
 // Every call on a code with k 4.
 fn wired_code<W: Write>(output: &mut W, code: Code, message: &[u8]) -> Result<()> {
-    let mut word = spoiled(output, code, message)?;
+    let mut word: [u8; 9] = calls::spoiled(output, code, message, [0, 1])?;
     repairs(output, code)?;
     loses(output, code, &word)?;
     previews(output, code)?;
     breaks(output, code)?;
-    let mut marks = two_lost();
+    let mut marks = [1u8, 1, 0, 0, 0, 0, 0, 0, 0];
     let answer = pass::local_pass(code, &mut word, &mut marks);
     calls::put_mended(output, code, answer, &word, &marks)
 }

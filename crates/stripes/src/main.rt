@@ -4,10 +4,10 @@
 
 use code::Code;
 use std::io::Result;
-use vectors::Call;
+use tally::{Kind, Tally};
+use vectors::{Call, Record, Records};
 
-mod few;
-mod many;
+mod calls;
 
 // The code of a call.
 fn code_of(call: Call) -> Code {
@@ -21,33 +21,39 @@ fn code_of(call: Call) -> Code {
 }
 
 // Makes a record's call: whether the answer and every buffer are the record's.
-fn run(record: &[u8], call: Call) -> bool {
-    let number = call.number;
-    match number {
-        2 => few::run_weights(record, call),
-        3 | 5 => few::run_one(record, call),
-        6 => few::run_pass(record, call),
-        7 | 11 | 15 => many::run_word(record, call),
-        10 => many::run_sheet(record),
-        _ => few::run_two(record, call),
+fn run(record: &Record, kind: Kind) -> bool {
+    match kind {
+        Kind::Encode => calls::run_encode(record),
+        Kind::Weights => calls::run_weights(record),
+        Kind::Repair => calls::run_repair(record),
+        Kind::Rebuild => calls::run_rebuild(record),
+        Kind::View => calls::run_view(record),
+        Kind::LocalPass => calls::run_pass(record),
+        Kind::Decode => calls::run_decode(record),
+        Kind::Grade => calls::run_grade(record),
+        Kind::ReadSheet => calls::run_sheet(record),
+        Kind::WriteSheet => calls::run_write(record),
+        Kind::DecodeNear => calls::run_near(record),
     }
 }
 
 // Makes the calls of all records, and counts them.
-fn run_all(input: &[u8], counts: &mut [u32]) {
-    let mut at: usize = 0;
-    while at < input.len() {
-        let record = vectors::record_at(input, at);
-        let call = vectors::call_of(record);
-        tally::count(counts, call.number, run(record, call));
-        at = vectors::next_record(input, at);
+fn run_all(input: &[u8]) -> Tally {
+    let mut tally = Tally::default();
+    for bytes in Records(input) {
+        let record = Record::read(bytes);
+        if let Ok(kind) = Kind::try_from(record.call.number) {
+            tally.count(kind, run(&record, kind));
+        }
     }
+    tally
 }
 
 fn main(rt: HostRuntime) -> Result<()> {
-    let mut room = vectors::room();
-    let read = console::read_input(&mut rt.stdin(), &mut room);
-    let mut counts = [0u32; 32];
-    run_all(&room[..read.len], &mut counts);
-    tally::put_lines(&mut rt.stdout(), &counts)
+    let mut room = [0u8; 262144];
+    let n = match console::read_input(&mut rt.stdin(), &mut room) {
+        Ok(n) => n,
+        Err(failed) => failed.len,
+    };
+    run_all(&room[..n]).put_lines(&mut rt.stdout())
 }

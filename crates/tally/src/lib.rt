@@ -1,73 +1,117 @@
 // Counts of calls and of their mismatches, and the lines that print them.
-// Number i of the counts is how often call i was made, from 1 to 15, and number 16 + i is how often it mismatched.
 #![tactic(auto)]
 
+use std::fmt;
 use std::io::{Result, Write};
 
-// One more.
-fn more(n: u32) -> u32 {
-    if n < 1000000 {
-        return n + 1;
+// The calls that are counted. The record, the report, the previews and the encode of strips are not made here.
+#[derive(Clone, Copy, PartialEq, Eq, Debug)]
+pub enum Kind {
+    Encode,
+    Weights,
+    Repair,
+    Rebuild,
+    View,
+    LocalPass,
+    Decode,
+    Grade,
+    ReadSheet,
+    WriteSheet,
+    DecodeNear,
+}
+
+// A number that no counted call has.
+#[derive(Clone, Copy, PartialEq, Eq, Debug)]
+pub struct NotCounted;
+
+impl TryFrom<u32> for Kind {
+    type Error = NotCounted;
+
+    fn try_from(number: u32) -> std::result::Result<Kind, NotCounted> {
+        match number {
+            1 => Ok(Kind::Encode),
+            2 => Ok(Kind::Weights),
+            3 => Ok(Kind::Repair),
+            4 => Ok(Kind::Rebuild),
+            5 => Ok(Kind::View),
+            6 => Ok(Kind::LocalPass),
+            7 => Ok(Kind::Decode),
+            8 => Ok(Kind::Grade),
+            10 => Ok(Kind::ReadSheet),
+            11 => Ok(Kind::WriteSheet),
+            15 => Ok(Kind::DecodeNear),
+            _ => Err(NotCounted),
+        }
     }
-    n
 }
 
-// Counts a number up, if it is there.
-fn count_up(counts: &mut [u32], i: usize) {
-    if i < counts.len() {
-        counts[i] = more(counts[i]);
+// The name of a call.
+impl fmt::Display for Kind {
+    fn fmt<W: fmt::Write>(&self, f: &mut fmt::Formatter<W>) -> fmt::Result {
+        f.write_str(match self {
+            Kind::Encode => "encode",
+            Kind::Weights => "weights",
+            Kind::Repair => "repair",
+            Kind::Rebuild => "rebuild",
+            Kind::View => "view",
+            Kind::LocalPass => "local_pass",
+            Kind::Decode => "decode",
+            Kind::Grade => "grade",
+            Kind::ReadSheet => "read_sheet",
+            Kind::WriteSheet => "write_sheet",
+            Kind::DecodeNear => "decode_near",
+        })
     }
 }
 
-// Counts a call, and a mismatch where it does not agree.
-pub fn count(counts: &mut [u32], call: u32, agrees: bool) {
-    if 16 <= call {
-        return;
+// The kinds in the order of their lines.
+const KINDS: [Kind; 11] = [
+    Kind::Encode,
+    Kind::Weights,
+    Kind::Repair,
+    Kind::Rebuild,
+    Kind::View,
+    Kind::LocalPass,
+    Kind::Decode,
+    Kind::Grade,
+    Kind::ReadSheet,
+    Kind::WriteSheet,
+    Kind::DecodeNear,
+];
+
+// How often a call was made, and how often it mismatched.
+#[derive(Clone, Copy, Default)]
+struct Count {
+    calls: u32,
+    mismatches: u32,
+}
+
+// A count for each kind.
+#[derive(Clone, Copy, Default)]
+pub struct Tally {
+    counts: [Count; 11],
+}
+
+impl Tally {
+    // Counts a call, and a mismatch where it does not agree.
+    pub fn count(&mut self, kind: Kind, agrees: bool) {
+        let count = &mut self.counts[kind as usize];
+        count.calls = count.calls.saturating_add(1);
+        if !agrees {
+            count.mismatches = count.mismatches.saturating_add(1);
+        }
     }
-    count_up(counts, call as usize);
-    if !agrees {
-        count_up(counts, call as usize + 16);
+
+    // A line for each kind: its name, how often it was made, and how often it mismatched.
+    pub fn put_lines<W: Write>(&self, output: &mut W) -> Result<()> {
+        for kind in KINDS {
+            let count = self.counts[kind as usize];
+            writeln!(
+                output,
+                "{kind} calls {} mismatches {}",
+                count.calls, count.mismatches
+            )?;
+        }
+        Ok(())
     }
-}
-
-// Number i, or 0 where there is none.
-fn number_at(counts: &[u32], i: usize) -> u32 {
-    if i < counts.len() {
-        return counts[i];
-    }
-    0
-}
-
-// The line of a call: its name, how often it was made, and how often it mismatched.
-fn put_line<W: Write>(output: &mut W, name: &[u8], counts: &[u32], call: u8) -> Result<()> {
-    output.write_all(name)?;
-    output.write_all(b" calls ")?;
-    show::put(output, number_at(counts, call as usize))?;
-    let mismatches = number_at(counts, call as usize + 16);
-    writeln!(output, "mismatches {mismatches}")
-}
-
-// The lines of calls 1 to 6.
-fn put_low<W: Write>(output: &mut W, counts: &[u32]) -> Result<()> {
-    put_line(output, b"encode", counts, 1)?;
-    put_line(output, b"weights", counts, 2)?;
-    put_line(output, b"repair", counts, 3)?;
-    put_line(output, b"rebuild", counts, 4)?;
-    put_line(output, b"view", counts, 5)?;
-    put_line(output, b"local_pass", counts, 6)
-}
-
-// The lines of calls 7, 8, 10, 11 and 15; the record, the report, the previews and the encode of strips are not made here.
-fn put_high<W: Write>(output: &mut W, counts: &[u32]) -> Result<()> {
-    put_line(output, b"decode", counts, 7)?;
-    put_line(output, b"grade", counts, 8)?;
-    put_line(output, b"read_sheet", counts, 10)?;
-    put_line(output, b"write_sheet", counts, 11)?;
-    put_line(output, b"decode_near", counts, 15)
-}
-
-// The lines of all calls.
-pub fn put_lines<W: Write>(output: &mut W, counts: &[u32]) -> Result<()> {
-    put_low(output, counts)?;
-    put_high(output, counts)
 }
