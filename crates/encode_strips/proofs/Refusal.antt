@@ -2,7 +2,7 @@
 --   short_no, long_no, fit_rest    the tests of the length of a strip, one after another
 --   Passed n s ms b                no refusal n before, strips of one length, and symbols below q
 --   strips_passed                  strips that are not refused have these
-use mathlib.Core.Path.{◌≡◌, refl, sym, ap, ◌∙◌}
+use mathlib.Core.Path.{◌≡◌, refl, sym}
 use mathlib.Core.Bool.{false, ◌&&◌}
 use mathlib.Core.List.{List}
 use Prim.Native.Nat.{ℕ, ◌*◌, ◌/◌, ◌≤◌, ◌<◌}
@@ -12,9 +12,9 @@ use lib.ListN.{length}
 use Rattle.algebra.specs.Sequence.{all_below}
 use Rattle.algebra.proofs.Booleans.{yes_true, no_false, and_left, and_right, and_no_left, and_no_right}
 use Rattle.field.specs.Field.{q}
-use Rattle.code.specs.Question.{ask, or_ask}
+use Rattle.code.specs.Question.{ask}
 use Rattle.code.specs.declared.Shape.{Shape}
-use Rattle.code.proofs.Questions.{ask_then, ask_and, asked, or_ask_passed}
+use Rattle.code.proofs.Questions.{asked, or_ask_passed}
 use Rattle.encode_strips.specs.Strips.{strips_are, encode_strips_refusal}
 
 pub short_no : (l n b : ℕ) → l < 1 → false ≡ strips_are l n b

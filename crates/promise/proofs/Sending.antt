@@ -1,11 +1,10 @@
 -- What encoding and losing answer and leave. Assumes nothing.
---   send_is           the questions asked one after another are its refusal
 --   left_refused      on a refusal the word is as it was
 --   Passed, send_passed    what holds where no question refuses
 --   left_sent         then the word holds what a loss leaves of the codeword
 use mathlib.Core.Path.{◌≡◌, sym, ap, ◌∙◌}
 use mathlib.Core.Logic.{◌≢◌}
-use mathlib.Core.Bool.{Bool, cond, ◌&&◌}
+use mathlib.Core.Bool.{cond, ◌&&◌}
 use mathlib.Core.List.{List}
 use Prim.Native.Nat.{ℕ}
 use borrow.Author.Tests.{eq-eqb, ne_eqb}
@@ -13,46 +12,26 @@ use lib.Dec.{eqb, eqb→eq}
 use lib.ListN.{length}
 use Rattle.algebra.proofs.Booleans.{and_left, and_right}
 use Rattle.code.specs.declared.Code.{Code}
-use Rattle.code.specs.Question.{ask, or_ask}
 use Rattle.code.specs.Family.{single, code_refusal}
 use Rattle.code.specs.Codeword.{encoded}
-use Rattle.code.proofs.Questions.{ask_then, ask_and, asked, or_ask_passed}
+use Rattle.code.proofs.Questions.{asked, or_ask_passed}
 use Rattle.code.proofs.Codewords.{length_encoded}
 use Rattle.encode.specs.Encode.{encode_refusal, EncodeSays}
 use Rattle.promise.specs.RoundTrip.{after_loss, send_refusal}
 use Rattle.promise.specs.Step.{Left}
-use Rattle.demand.proofs.Encoding.{encode_is, encode_cond}
+use Rattle.demand.proofs.Encoding.{encode_cond}
 
--- x is encode's answer, x₁ to x₃ what is answered so far after each question
-module _ (c : Code) (ms ks os cs ws : List ℕ) (x x₁ x₂ x₃ : ℕ) (z : List ℕ) (says : EncodeSays (code_refusal c) (single c) ms x cs z)
-    (e₁ : x₁ ≡ or_ask x (ask (eqb (length ks) c.n) 5 0)) (e₂ : x₂ ≡ or_ask x₁ (ask (eqb (length os) c.n) 5 0))
-    (e₃ : x₃ ≡ or_ask x₂ (ask (eqb (length ws) c.n) 5 0)) where
-  abbrev a : Bool
-  a = eqb (length ks) c.n
-
-  abbrev b : Bool
-  b = eqb (length os) c.n
-
-  abbrev d : Bool
-  d = eqb (length ws) c.n
-
-  pub send_is : x₃ ≡ send_refusal c ms ks os (length cs) (length ws)
-  unfolding send_refusal
-  send_is =
-      e₃ ∙ ap (λ y. or_ask y (ask d 5 0)) e₂ ∙ ask_then x₁ b 4 (ask d 5 0) ∙ ap (λ y. or_ask y (ask b 5 (ask d 5 0))) e₁
-      ∙ ask_then x a 4 (ask b 5 (ask d 5 0))
-      ∙ ap (or_ask x) (ask_and a b 5 (ask d 5 0) ∙ ask_and (a && b) d 5 0)
-      ∙ ap (λ y. or_ask y (ask ((a && b) && d) 5 0)) (encode_is (code_refusal c) (single c) ms x cs z says)
-
-  pub left_refused : x₃ ≢ 0 → Left c ms ks os x₃ cs z ws ws
-  left_refused n =
+-- x is encode's answer
+module _ (c : Code) (ms ks os cs ws : List ℕ) (x : ℕ) (z : List ℕ) (says : EncodeSays (code_refusal c) (single c) ms x cs z) where
+  pub left_refused : (y : ℕ) → y ≡ send_refusal c ms ks os (length cs) (length ws) → y ≢ 0 → Left c ms ks os y cs z ws ws
+  left_refused y i n =
       record {
-        answer = send_is;
+        answer = i;
         sent =
             record {
               codeword = encode_cond (code_refusal c) (single c) ms x cs z says;
               word = sym (ap (λ t. cond t (after_loss (encoded (single c) ms) ks os) ws)
-                  (ne_eqb (send_refusal c ms ks os (length cs) (length ws)) 0 (λ e. n (send_is ∙ e))));
+                  (ne_eqb (send_refusal c ms ks os (length cs) (length ws)) 0 (λ e. n (i ∙ e))));
             };
       }
 
@@ -63,10 +42,13 @@ module _ (c : Code) (ms ks os cs ws : List ℕ) (x x₁ x₂ x₃ : ℕ) (z : Li
     pub other_size : length os ≡ c.n
     pub word_size : length ws ≡ c.n
 
-  pub send_passed : x₃ ≡ 0 → Passed
+  pub send_passed : send_refusal c ms ks os (length cs) (length ws) ≡ 0 → Passed
   unfolding send_refusal
   send_passed e =
-      let o = or_ask_passed (encode_refusal (code_refusal c) (single c) ms (length cs)) _ (sym send_is ∙ e) in
+      let a = eqb (length ks) c.n in
+      let b = eqb (length os) c.n in
+      let d = eqb (length ws) c.n in
+      let o = or_ask_passed (encode_refusal (code_refusal c) (single c) ms (length cs)) _ e in
       let t = (asked ((a && b) && d) 4 0 o.1).0 in
       let w : z ≡ encoded (single c) ms
       = encode_cond (code_refusal c) (single c) ms x cs z says
@@ -79,15 +61,14 @@ module _ (c : Code) (ms ks os cs ws : List ℕ) (x x₁ x₂ x₃ : ℕ) (z : Li
         word_size = eqb→eq (length ws) c.n (and_right (a && b) d t);
       }
 
-  pub left_sent : (ws' : List ℕ) → x₃ ≡ 0 → ws' ≡ after_loss z ks os → Left c ms ks os 0 cs z ws ws'
+  pub left_sent : (ws' : List ℕ) → send_refusal c ms ks os (length cs) (length ws) ≡ 0 → ws' ≡ after_loss z ks os → Left c ms ks os 0 cs z ws ws'
   left_sent ws' e p =
       record {
-        answer = sym e ∙ send_is;
+        answer = sym e;
         sent =
             record {
               codeword = encode_cond (code_refusal c) (single c) ms x cs z says;
               word = p ∙ ap (λ w. after_loss w ks os) (send_passed e).codeword
-                  ∙ sym (ap (λ t. cond t (after_loss (encoded (single c) ms) ks os) ws)
-                  (eq-eqb (send_refusal c ms ks os (length cs) (length ws)) 0 (sym send_is ∙ e)));
+                  ∙ sym (ap (λ t. cond t (after_loss (encoded (single c) ms) ks os) ws) (eq-eqb (send_refusal c ms ks os (length cs) (length ws)) 0 e));
             };
       }

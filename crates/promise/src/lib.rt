@@ -8,10 +8,12 @@ ghost use Rattle.code.specs.Decoding.{lost};
 ghost use Rattle.code.specs.Repair.{symbols_of};
 ghost use Rattle.code.specs.Laws.{Mending};
 ghost use Rattle.weights.specs.Weights.{sixteen};
+ghost use Rattle.refusal.specs.Refusal.{number_of, answer_of};
 ghost use Rattle.promise.specs.RoundTrip.{after_loss, ComesBack, Restored};
 ghost use Rattle.promise.specs.Step.{Left};
 
-use code::{Answer, Code, Shape};
+use code::{Code, Shape};
+use refusal::{Refusal, require};
 
 // What slot p holds: the other byte where it is lost. Only a kept slot need be in the codeword, so the mark is tested first.
 fn held(p: usize, codeword: &[u8], marks: &[u8], other: &[u8]) -> u8
@@ -44,18 +46,15 @@ fn send(
     other: &[u8],
     codeword: &mut [u8],
     word: &mut [u8],
-) -> u32
-    ensures { Left code message.now marks.now other.now result codeword.old codeword.new word.old word.new }
+) -> Result<(), Refusal>
+    ensures { Left code message.now marks.now other.now (number_of result) codeword.old codeword.new word.old word.new }
 {
-    let refusal = encode::encode(code, message, codeword);
-    let marked = questions::ask(refusal, marks.len() == code.n as usize, 5);
-    let others = questions::ask(marked, other.len() == code.n as usize, 5);
-    let asked = questions::ask(others, word.len() == code.n as usize, 5);
-    if asked != 0 {
-        return asked;
-    }
+    encode::encode(code, message, codeword)?;
+    let n = code.n as usize;
+    let sizes = marks.len() == n && other.len() == n && word.len() == n;
+    require(sizes, Refusal::Buffers)?;
     lose(codeword, marks, other, word);
-    0
+    Ok(())
 }
 
 // Encodes a message, lets its lost slots hold other bytes, and decodes what is left into back.
@@ -68,13 +67,10 @@ pub fn encode_lose_decode(
     word: &mut [u8],
     back: &mut [u8],
     work: &mut [u8],
-) -> u32
-    ensures { ComesBack code message.now marks.now other.now result codeword.old codeword.new word.old word.new back.old back.new work.old work.new }
+) -> Result<(), Refusal>
+    ensures { ComesBack code message.now marks.now other.now (number_of result) codeword.old codeword.new word.old word.new back.old back.new work.old work.new }
 {
-    let refusal = send(code, message, marks, other, codeword, word);
-    if refusal != 0 {
-        return refusal;
-    }
+    send(code, message, marks, other, codeword, word)?;
     decode::decode(code, word, marks, back, work)
 }
 
@@ -99,14 +95,11 @@ pub fn encode_lose_repair(
     codeword: &mut [u8],
     word: &mut [u8],
     slot: u32,
-) -> Answer
-    ensures { Restored code message.now marks.now other.now slot result codeword.old codeword.new word.old word.new }
+) -> Result<u32, Refusal>
+    ensures { Restored code message.now marks.now other.now slot (answer_of result) codeword.old codeword.new word.old word.new }
 {
-    let sent = send(code, message, marks, other, codeword, word);
-    let refusal = questions::ask(sent, slot < code.n, 7);
-    if refusal != 0 {
-        return Answer { refusal, value: 0 };
-    }
+    send(code, message, marks, other, codeword, word)?;
+    require(slot < code.n, Refusal::Slot)?;
     let shape = acceptance::single(code);
     let mates = mates_in(shape, slot, word);
     let number = layout::mates_number(shape, slot) as usize;

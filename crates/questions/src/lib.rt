@@ -1,26 +1,12 @@
-// The questions that calls ask one after another, and the tests of marks and symbols behind them.
+// The tests of marks and symbols behind the questions that calls ask.
 #![tactic(auto)]
 
 ghost use Rattle.std.specs.Prelude.{◌≡◌, ℕ, ◌+◌, ◌*◌, ◌≤◌, ◌<◌, length};
 ghost use Rattle.algebra.specs.Sequence.{all_below};
-ghost use Rattle.code.specs.Question.{ask, or_ask};
 ghost use Rattle.code.specs.Erasure.{kept_below};
 ghost use Rattle.questions.specs.Step.{Highest, losses_from, symbols_from};
 
 use code::Shape;
-
-// The first "no" decides: what was asked before, or the number where the answer is no.
-pub fn ask(asked: u32, yes: bool, number: u32) -> u32
-    ensures { result ≡ or_ask asked (ask yes number 0) }
-{
-    if asked != 0 {
-        return asked;
-    }
-    if yes {
-        return 0;
-    }
-    number
-}
 
 // Whether every entry is below most.
 pub fn all_below(entries: &[u8], most: u32) -> bool

@@ -1,7 +1,7 @@
 -- The questions on strips with losses. Assumes nothing.
 --   Handed l s ws ms b      == what they leave: strips of one length, marks, room in work, and kept symbols below q
 --   handed                  strips that are not refused are so
-use mathlib.Core.Path.{◌≡◌, sym, ap, ◌∙◌}
+use mathlib.Core.Path.{◌≡◌}
 use mathlib.Core.Bool.{Bool, true, ◌&&◌}
 use mathlib.Core.List.{List}
 use Prim.Native.Nat.{ℕ, ◌+◌, ◌*◌, ◌/◌, ◌≤◌}
@@ -10,8 +10,7 @@ use lib.ListN.{length}
 use Rattle.algebra.specs.Sequence.{all_below}
 use Rattle.algebra.proofs.Booleans.{yes_true, and_left, and_right}
 use Rattle.code.specs.declared.Shape.{Shape}
-use Rattle.code.specs.Question.{ask, or_ask}
-use Rattle.code.proofs.Questions.{ask_then, ask_and, asked, or_ask_passed}
+use Rattle.code.proofs.Questions.{asked, or_ask_passed}
 use Rattle.strip_columns.specs.Strips.{strips_are}
 use Rattle.strip_columns.proofs.Lengths.{are_strips}
 use Rattle.strip_words.specs.Strips.{kept_strips_below, strip_used, strips_refusal}

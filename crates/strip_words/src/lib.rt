@@ -55,7 +55,10 @@ pub fn strips_asked(
     asked?;
     let n = shape.n as usize;
     let l = words.len() / n;
-    require(strip_columns::strips_are(l, n, words.len()), Refusal::Buffers)?;
+    require(
+        strip_columns::strips_are(l, n, words.len()),
+        Refusal::Buffers,
+    )?;
     require(marks.len() == n && fits, Refusal::Buffers)?;
     let used = n * (shape.k as usize + 1 + l);
     require(used <= work, Refusal::Buffers)?;

@@ -1,7 +1,5 @@
 use mathlib.Core.Path.{refl}
 use mathlib.Core.Path.{sym, ap, ◌∙◌}
-use mathlib.Core.Bool.{true}
-use Prim.Native.Nat.{◌-◌}
 use native.Mathlib.Omega.{arith}
 use Rattle.algebra.specs.Sequence.{every}
 use Rattle.algebra.proofs.Every.{every_none, every_more, every_not, every_done}
