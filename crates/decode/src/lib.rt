@@ -37,7 +37,7 @@ pub fn decode_asked(
     require(questions::kept_below(shape, word, marks), Refusal::Symbol)
 }
 
-// The refusal that a verdict stands for: none of 0, 9 and 10 their own.
+// The refusal that a verdict stands for: 0 is none, 9 and 10 are those of their numbers.
 pub fn verdict_of(number: u32) -> Result<(), Refusal>
     requires { IsVerdict number }
     ensures { number_of result ≡ number }
