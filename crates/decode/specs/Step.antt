@@ -1,7 +1,6 @@
 -- What private steps of decode are handed. Assumes nothing: these are definitions.
 --   Handed s ws ms a b   == what the questions of decode leave: an accepted shape, and buffers of their lengths with kept symbols below q
---   IsVerdict x          == x is one of the numbers that a verdict has
-use Rattle.std.specs.Prelude.{◌≡◌, ◌≢◌, true, List, ℕ, ◌+◌, ◌*◌, ◌≤◌, length}
+use Rattle.std.specs.Prelude.{◌≡◌, true, List, ℕ, ◌+◌, ◌*◌, ◌≤◌, length}
 use Rattle.code.specs.declared.Shape.{Shape}
 use Rattle.code.specs.Erasure.{kept_below}
 use Rattle.code.specs.Laws.{Decodable}
@@ -14,6 +13,3 @@ pub record Handed (s : Shape) (word marks : List ℕ) (message work : ℕ) : Typ
   pub message_size : message ≡ s.k
   pub work_size : s.n * (s.k + 1) ≤ work
   pub kept : kept_below s word marks ≡ true
-
-abbrev pub IsVerdict : ℕ → Type 0
-IsVerdict x = x ≢ 0 → x ≢ 9 → x ≡ 10

@@ -8,7 +8,7 @@ ghost use Rattle.code.specs.Work.{cleared};
 ghost use Rattle.code.specs.Laws.{Decodable};
 ghost use Rattle.refusal.specs.Refusal.{number_of};
 ghost use Rattle.decode.specs.Decode.{decode_refusal, DecodeSays};
-ghost use Rattle.decode.specs.Step.{Handed, IsVerdict};
+ghost use Rattle.decode.specs.Step.{Handed};
 
 use code::{Code, Shape};
 use refusal::{Refusal, require};
@@ -37,18 +37,6 @@ pub fn decode_asked(
     require(questions::kept_below(shape, word, marks), Refusal::Symbol)
 }
 
-// The refusal that a verdict stands for: 0 is none, 9 and 10 are those of their numbers.
-pub fn verdict_of(number: u32) -> Result<(), Refusal>
-    requires { IsVerdict number }
-    ensures { number_of result ≡ number }
-{
-    match number {
-        0 => Ok(()),
-        9 => Err(Refusal::Foreign),
-        _ => Err(Refusal::Undecided),
-    }
-}
-
 // Settles a word that no question refuses, in the front of work.
 pub fn settle(
     shape: Shape,
@@ -63,7 +51,7 @@ pub fn settle(
     let n = shape.n as usize;
     let k = shape.k as usize;
     let used = n * (k + 1);
-    verdict_of(solving::solve(shape, word, marks, message, &mut work[..used]))
+    solving::solve(shape, word, marks, message, &mut work[..used])
 }
 
 // Decode of any family: after the questions on its numbers.

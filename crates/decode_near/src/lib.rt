@@ -24,19 +24,21 @@ fn settle_left(
     work: &mut [u8],
     powers: &[u8; 255],
     logs: &[u8; 256],
-) -> u32
+) -> Result<(), Refusal>
     requires { Decodable shape × Task shape copy.now left.now message.old work.old × Powers 1 powers.now × Logs logs.now }
-    ensures { Verdict shape copy.now left.now message.old message.new result × (work.new ≡ replicate (length work.old) 0) }
+    ensures { Verdict shape copy.now left.now message.old message.new (number_of result) × (work.new ≡ replicate (length work.old) 0) }
 {
-    let verdict = solving::solve_sure(shape, copy, left, message, powers, logs);
-    if verdict == 11 {
-        return elimination::solve_beyond(shape, copy, left, message, work, powers, logs);
+    match solving::solve_sure(shape, copy, left, message, powers, logs) {
+        Some(decided) => {
+            work.fill(0);
+            decided
+        }
+        None => elimination::solve_beyond(shape, copy, left, message, work, powers, logs),
     }
-    copying::clear(work);
-    verdict
 }
 
 // The local pass on a copy, which the last two buffers are room for, and what it leaves. All of work is left 0.
+#[tactic(auto, using(crate::proofs::Replies::solved))]
 fn solve_near(
     shape: Shape,
     word: &[u8],
@@ -53,7 +55,7 @@ fn solve_near(
     let logs = tables::log_table();
     let number = copy_mending::mend_copy(shape, word, marks, copy, left, &powers, &logs);
     let verdict = settle_left(shape, copy, left, message, work, &powers, &logs);
-    decode::verdict_of(verdict)?;
+    verdict?;
     Ok(number)
 }
 

@@ -1,2 +1,3 @@
 pub mod Recording
 pub mod Promise
+pub mod Step

@@ -4,9 +4,9 @@
 ghost use Rattle.std.specs.Prelude.{◌≡◌};
 ghost use Rattle.code.specs.Family.{single, code_refusal};
 ghost use Rattle.code.specs.Laws.{Decodable};
-ghost use Rattle.decode.specs.Step.{IsVerdict};
 ghost use Rattle.refusal.specs.Refusal.{number_of};
 ghost use Rattle.recording.specs.Recording.{outcome_number, recorded_of, RecordSays};
+ghost use Rattle.recording.specs.Step.{IsVerdict};
 
 use code::{Code, Shape};
 use refusal::Refusal;

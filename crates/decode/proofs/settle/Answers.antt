@@ -23,4 +23,4 @@ pub returns : goal.returns
 returns c =
     let a = c.args in
     let t = c.solve in
-    (rw c.verdict_of.ensures t.ensures.0, front_cleared a.shape a.work.now t.new.work c.requires.work_size t.ensures.1)
+    (t.ensures.0, front_cleared a.shape a.work.now t.new.work c.requires.work_size t.ensures.1)
