@@ -23,8 +23,8 @@ pub fn preview_program<R: Read, W: Write, E: Write>(
         return console::unread(errors, b"preview");
     };
     let mut text = [0u8; 8420];
-    let answer = preview_sheet::preview_sheet(&sheet[..n], &mut text);
-    console::write_output(output, errors, b"preview", &text, answer.value as usize)
+    let length = preview_sheet::preview_sheet(&sheet[..n], &mut text).unwrap_or(0);
+    console::write_output(output, errors, b"preview", &text, length as usize)
 }
 
 fn main(rt: HostRuntime) -> ExitCode {

@@ -22,8 +22,8 @@ pub fn report_program<R: Read, W: Write, E: Write>(
         return console::unread(errors, b"report");
     };
     let mut text = [0u8; 1032];
-    let answer = reporting::report(&sheet[..n], &mut text);
-    console::write_output(output, errors, b"report", &text, answer.value as usize)
+    let length = reporting::report(&sheet[..n], &mut text).unwrap_or(0);
+    console::write_output(output, errors, b"report", &text, length as usize)
 }
 
 fn main(rt: HostRuntime) -> ExitCode {

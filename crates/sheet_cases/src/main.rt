@@ -26,15 +26,15 @@ impl<'a> Iterator for Sheets<'a> {
 // The report of one sheet.
 fn put_report<W: Write>(output: &mut W, sheet: &[u8]) -> Result<()> {
     let mut text = [0u8; 1032];
-    let answer = reporting::report(sheet, &mut text);
-    show::put_front(output, &text, answer.value as usize)
+    let length = reporting::report(sheet, &mut text).unwrap_or(0);
+    show::put_front(output, &text, length as usize)
 }
 
 // The preview of one sheet.
 fn put_preview<W: Write>(output: &mut W, sheet: &[u8]) -> Result<()> {
     let mut text = [0u8; 8420];
-    let answer = preview_sheet::preview_sheet(sheet, &mut text);
-    show::put_front(output, &text, answer.value as usize)
+    let length = preview_sheet::preview_sheet(sheet, &mut text).unwrap_or(0);
+    show::put_front(output, &text, length as usize)
 }
 
 // The reports and previews of the first 64 sheets.
