@@ -7,13 +7,20 @@ ghost use Rattle.code.specs.Laws.{Decodable};
 use code::{Code, Shape};
 use console::words::{Words, is_decimal, value_of};
 use refusal::Refusal;
-use std::io::{Result, Write};
+use std::io::{Cursor, Result, Write, sink};
 
-// What was written: the sheet, or a sentence on what is wrong with the input.
+// What is written: the sheet, or a sentence on what is wrong with the input.
 #[derive(Clone, Copy, PartialEq, Eq, Debug)]
-pub enum Written {
+pub enum Kind {
     Sheet,
     Refusal,
+}
+
+// What stands in front of a text, and how many bytes of it.
+#[derive(Clone, Copy, PartialEq, Eq, Debug)]
+pub struct Written {
+    pub kind: Kind,
+    pub len: usize,
 }
 
 // Writes a word of the input, cut behind its twentieth byte; control characters become question marks.
@@ -29,20 +36,15 @@ fn put_word<W: Write>(output: &mut W, word: &[u8]) -> Result<()> {
 }
 
 // Writes the sentence that refuses a number of the input, number i from 0.
-fn refuse<W: Write>(output: &mut W, i: usize, word: &[u8], reason: &str) -> Result<Written> {
+fn refuse<W: Write>(output: &mut W, i: usize, word: &[u8], reason: &str) -> Result<Kind> {
     write!(output, "number {}, \"", i % 4096 + 1)?;
     put_word(output, word)?;
     write!(output, "\", is refused: {reason}")?;
-    Ok(Written::Refusal)
+    Ok(Kind::Refusal)
 }
 
 // The same, of a number that is looked up.
-fn refuse_at<W: Write>(
-    output: &mut W,
-    mut words: Words,
-    i: usize,
-    reason: &str,
-) -> Result<Written> {
+fn refuse_at<W: Write>(output: &mut W, mut words: Words, i: usize, reason: &str) -> Result<Kind> {
     refuse(output, i, words.nth(i).unwrap_or(b""), reason)
 }
 
@@ -52,7 +54,7 @@ fn refuse_code<W: Write>(
     words: Words,
     code: Code,
     refusal: Refusal,
-) -> Result<Written> {
+) -> Result<Kind> {
     let (i, reason) = match refusal {
         Refusal::Locality => (0, "r is 1, 2, 3, 5 or 11 (refusal 2)"),
         Refusal::Length => (
@@ -73,12 +75,12 @@ fn refuse_code<W: Write>(
 }
 
 // Writes the sentence of a message that has not k symbols.
-fn refuse_length<W: Write>(output: &mut W, symbols: usize, k: u32) -> Result<Written> {
+fn refuse_length<W: Write>(output: &mut W, symbols: usize, k: u32) -> Result<Kind> {
     write!(
         output,
         "{symbols} message symbols are refused: k is {k} (refusal 5)"
     )?;
-    Ok(Written::Refusal)
+    Ok(Kind::Refusal)
 }
 
 // The place of the first symbol that is 13 or more, or the message's length.
@@ -92,20 +94,15 @@ fn first_large(message: &[u8]) -> usize
 }
 
 // Writes the sheet of a shape over thirteen and a message, or the sentence of the message's refusal.
-fn put_message<W: Write>(
-    output: &mut W,
-    words: Words,
-    shape: Shape,
-    message: &[u8],
-) -> Result<Written>
+fn put_message<W: Write>(output: &mut W, words: Words, shape: Shape, message: &[u8]) -> Result<Kind>
     requires { Decodable shape × (shape.field ≡ 0) × (length message.now ≤ 16) }
 {
     let mut codeword = [0u8; 12];
     let front = &mut codeword[..shape.n as usize];
     match encode::encode_with(Ok(()), shape, message, front) {
         Ok(()) => {
-            lesson::put_sheet(output, shape, message, front)?;
-            Ok(Written::Sheet)
+            lesson::write_sheet(output, shape, message, front)?;
+            Ok(Kind::Sheet)
         }
         Err(Refusal::Buffers) => refuse_length(output, message.len(), shape.k),
         Err(_) => {
@@ -135,7 +132,7 @@ fn put_numbers<W: Write>(
     wiring: u32,
     numbers: &[u8],
     count: usize,
-) -> Result<Written>
+) -> Result<Kind>
     requires { (3 ≤ count) × (length numbers.now ≡ 16) }
 {
     let code = code_of(numbers[0], numbers[1], numbers[2], wiring);
@@ -149,7 +146,7 @@ fn put_numbers<W: Write>(
 }
 
 // Writes the sheet of the numbers of an input, or the sentence on what is wrong with them.
-fn put_input<W: Write>(output: &mut W, words: Words, wiring: u32) -> Result<Written> {
+fn put_input<W: Write>(output: &mut W, words: Words, wiring: u32) -> Result<Kind> {
     for (i, word) in words.enumerate() {
         if !is_decimal(word) {
             return refuse(
@@ -163,7 +160,7 @@ fn put_input<W: Write>(output: &mut W, words: Words, wiring: u32) -> Result<Writ
     let count = words.count();
     if count < 3 {
         output.write_all(b"fewer than three numbers: r, n, k and k message symbols are wanted")?;
-        return Ok(Written::Refusal);
+        return Ok(Kind::Refusal);
     }
     let mut numbers = [0u8; 16];
     for (number, word) in numbers.iter_mut().zip(words) {
@@ -173,10 +170,26 @@ fn put_input<W: Write>(output: &mut W, words: Words, wiring: u32) -> Result<Writ
 }
 
 // Writes the sheet of an input, or the sentence on what is wrong with it. An Err is the output's.
-pub fn classroom<W: Write>(input: &[u8], output: &mut W) -> Result<Written> {
+pub fn write_classroom<W: Write>(input: &[u8], output: &mut W) -> Result<Kind> {
     let mut words = Words(input);
     match words.next() {
         Some(b"wired") => put_input(output, words, 1),
         _ => put_input(output, Words(input), 0),
     }
+}
+
+// What an input gets, where nothing has to fit.
+fn kind_of(input: &[u8]) -> Kind {
+    write_classroom(input, &mut sink()).unwrap_or(Kind::Refusal)
+}
+
+// Puts the sheet of an input, or the sentence on what is wrong with it, in front of a text, cut where it does not fit.
+pub fn classroom(input: &[u8], text: &mut [u8]) -> Written {
+    let mut front = Cursor::new(text);
+    let kind = match write_classroom(input, &mut front) {
+        Ok(kind) => kind,
+        Err(_) => kind_of(input),
+    };
+    let len = front.position() as usize;
+    Written { kind, len }
 }

@@ -3,31 +3,29 @@
 
 ghost use Rattle.std.specs.Prelude.{◌≤◌};
 
-use class_sheet::Written;
-use std::io::{Cursor, Read, Write};
+use class_sheet::Kind;
+use std::io::{Read, Write};
 use std::process::ExitCode;
 
 // The exit status of the program on an input that was read: 0 and the sheet, 1 and a sentence, or 2 where writing fails.
 fn answer<W: Write, E: Write>(input: &[u8], output: &mut W, errors: &mut E) -> u8
     ensures { result ≤ 2 }
 {
-    let mut room = [0u8; 4095];
-    let mut text = Cursor::new(&mut room[..]);
+    let mut text = [0u8; 4096];
     let written = class_sheet::classroom(input, &mut text);
-    let len = text.position() as usize;
-    match written {
-        Ok(Written::Sheet) => console::write_output(output, errors, b"classroom", &room, len),
-        Ok(Written::Refusal) => {
-            console::complain(errors, b"classroom", room.get(..len).unwrap_or(b""));
+    let Some(front) = text.get(..written.len).filter(|front| front.len() < 4096) else {
+        console::complain(
+            errors,
+            b"classroom",
+            b"the sheet is longer than 4,095 bytes",
+        );
+        return 2;
+    };
+    match written.kind {
+        Kind::Sheet => console::write_output(output, errors, b"classroom", front, front.len()),
+        Kind::Refusal => {
+            console::complain(errors, b"classroom", front);
             1
-        }
-        Err(_) => {
-            console::complain(
-                errors,
-                b"classroom",
-                b"the sheet is longer than 4,095 bytes",
-            );
-            2
         }
     }
 }

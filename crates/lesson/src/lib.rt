@@ -6,7 +6,7 @@ ghost use Rattle.code.specs.Laws.{Placed, Mending};
 ghost use Rattle.code.specs.Shape.{size, groups};
 
 use code::Shape;
-use std::io::{Result, Write};
+use std::io::{Cursor, Result, Write};
 
 // Bytes as numbers, each behind a space.
 fn put_all<W: Write>(output: &mut W, bytes: &[u8]) -> Result<()> {
@@ -218,8 +218,8 @@ fn put_encoding<W: Write>(
     output.write_all(b"\n")
 }
 
-// The sheet of a shape, a message and its codeword.
-pub fn put_sheet<W: Write>(
+// Writes the sheet of a shape, a message and its codeword.
+pub fn write_sheet<W: Write>(
     output: &mut W,
     shape: Shape,
     message: &[u8],
@@ -230,4 +230,13 @@ pub fn put_sheet<W: Write>(
     put_layout(output, shape)?;
     put_encoding(output, shape, message, codeword)?;
     put_slots(output, shape)
+}
+
+// Puts that sheet in front of a text, cut where it does not fit: how many bytes.
+pub fn put_sheet(text: &mut [u8], shape: Shape, message: &[u8], codeword: &[u8]) -> usize
+    requires { Mending shape × (length message.now ≤ 16) }
+{
+    let mut front = Cursor::new(text);
+    let _ = write_sheet(&mut front, shape, message, codeword);
+    front.position() as usize
 }
