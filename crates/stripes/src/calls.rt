@@ -71,7 +71,10 @@ pub fn run_repair(record: &Record) -> bool {
 pub fn run_rebuild(record: &Record) -> bool {
     writes(
         record,
-        |call, a, b| pair(number_of(repair::rebuild(code_of(call), call.slot, a, b)), 0),
+        |call, a, b| pair(
+            number_of(repair::rebuild(code_of(call), call.slot, a, b)),
+            0,
+        ),
     )
 }
 
