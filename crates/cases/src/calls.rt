@@ -1,5 +1,6 @@
 // The calls, each with a line of what it answers.
-use code::{Answer, Code};
+use code::Code;
+use refusal::{Refusal, number_of};
 use std::io::{Result, Write};
 
 // A code of five numbers.
@@ -46,24 +47,39 @@ pub fn put_call<W: Write>(
     show::put_line(output, bytes)
 }
 
+// A refusal's number and 0, or 0 and the value.
+fn pair(answer: std::result::Result<u32, Refusal>) -> [u32; 2] {
+    match answer {
+        Ok(value) => [0, value],
+        Err(refusal) => [refusal.number(), 0],
+    }
+}
+
 // The line of a call with a refusal and a value.
-fn put_value<W: Write>(output: &mut W, name: &str, code: Code, answer: Answer) -> Result<()> {
-    put_call(output, name, code, &[answer.refusal, answer.value], &[])
+fn put_value<W: Write>(
+    output: &mut W,
+    name: &str,
+    code: Code,
+    answer: std::result::Result<u32, Refusal>,
+) -> Result<()> {
+    put_call(output, name, code, &pair(answer), &[])
 }
 
 // Encodes a message to a buffer of a length.
 pub fn encodes<W: Write>(output: &mut W, code: Code, message: &[u8], length: usize) -> Result<()> {
     let mut room = [0u8; 12];
     let codeword = front(&mut room, length);
-    let refusal = encode::encode(code, message, codeword);
+    let refusal = number_of(encode::encode(code, message, codeword));
     put_call(output, "encode", code, &[refusal], codeword)
 }
 
 // The repair weights of a slot.
 pub fn weighs<W: Write>(output: &mut W, code: Code, slot: u32) -> Result<()> {
-    let answer = weights::weights(code, slot);
-    let weights = answer.weights;
-    put_call(output, "weights", code, &[answer.refusal], &weights)
+    let (refusal, weights) = match weights::weights(code, slot) {
+        Ok(weights) => (0, weights),
+        Err(refusal) => (refusal.number(), [0; 16]),
+    };
+    put_call(output, "weights", code, &[refusal], &weights)
 }
 
 // Repairs a slot from its mates' symbols.
@@ -81,13 +97,13 @@ pub fn rebuilds<W: Write>(
 ) -> Result<()> {
     let mut room = [0u8; 3];
     let strip = front(&mut room, length);
-    let refusal = repair::rebuild(code, slot, strips, strip);
+    let refusal = number_of(repair::rebuild(code, slot, strips, strip));
     put_call(output, "rebuild", code, &[refusal], strip)
 }
 
 // Looks at a slot's group in a word.
 pub fn views<W: Write>(output: &mut W, code: Code, slot: u32, word: &[u8]) -> Result<()> {
-    let refusal = view::group_view_refusal(code, slot, word);
+    let refusal = number_of(view::group_view_refusal(code, slot, word));
     let seen = view::group_view(code, slot, word);
     put_call(output, "view", code, &[refusal], seen)
 }
@@ -96,7 +112,7 @@ pub fn views<W: Write>(output: &mut W, code: Code, slot: u32, word: &[u8]) -> Re
 pub fn put_mended<W: Write>(
     output: &mut W,
     code: Code,
-    answer: Answer,
+    answer: std::result::Result<u32, Refusal>,
     word: &[u8],
     marks: &[u8],
 ) -> Result<()> {
@@ -126,9 +142,9 @@ pub fn decodes<W: Write>(
     let mut room = [7u8; 240];
     let mut work = work_room();
     let message = front(&mut room, code.k as usize);
-    let refusal = decode::decode(code, word, marks, message, front(&mut work, used));
-    let grade = grading::grade(code, marks, front(&mut work, used));
-    let answers = [refusal, grade.refusal, grade.value];
+    let decoded = decode::decode(code, word, marks, message, front(&mut work, used));
+    let [refusal, grade] = pair(grading::grade(code, marks, front(&mut work, used)));
+    let answers = [number_of(decoded), refusal, grade];
     put_call(output, "decode", code, &answers, message)
 }
 
@@ -144,13 +160,7 @@ pub fn nears<W: Write>(
     let mut work = work_room();
     let message = front(&mut room, code.k as usize);
     let answer = decode_near::decode_near(code, word, marks, message, front(&mut work, used));
-    put_call(
-        output,
-        "near",
-        code,
-        &[answer.refusal, answer.value],
-        message,
-    )
+    put_call(output, "near", code, &pair(answer), message)
 }
 
 // Decodes as it is and after the local pass.
@@ -173,7 +183,7 @@ pub fn spoiled<W: Write, const N: usize>(
     slots: [usize; 2],
 ) -> Result<[u8; N]> {
     let mut word = [0u8; N];
-    let refusal = encode::encode(code, message, &mut word);
+    let refusal = number_of(encode::encode(code, message, &mut word));
     put_call(output, "encode", code, &[refusal], &word)?;
     for slot in slots {
         if let Some(symbol) = word.get_mut(slot) {
@@ -192,7 +202,9 @@ pub fn previews<W: Write>(
     used: usize,
 ) -> Result<()> {
     let mut work = work_room();
-    let seen = previewing::preview(code, slot, marks, front(&mut work, used));
-    let answers = [seen.refusal, seen.lost, seen.grade, seen.first];
+    let answers = match previewing::preview(code, slot, marks, front(&mut work, used)) {
+        Ok(seen) => [0, seen.lost, seen.grade, seen.first],
+        Err(refusal) => [refusal.number(), 0, 0, 0],
+    };
     put_call(output, "preview", code, &answers, &[])
 }

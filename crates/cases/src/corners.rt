@@ -32,7 +32,7 @@ fn spoiled<W: Write>(output: &mut W, code: Code) -> Result<[u8; 255]> {
     let mut word_room = [0u8; 255];
     let message = calls::front(&mut message_room, code.k as usize);
     let word = calls::front(&mut word_room, code.n as usize);
-    let refusal = encode::encode(code, message, word);
+    let refusal = refusal::number_of(encode::encode(code, message, word));
     calls::put_call(output, "encode", code, &[refusal], word)?;
     word_room[0] = 255;
     Ok(word_room)

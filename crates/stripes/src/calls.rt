@@ -2,6 +2,7 @@
 // record's after it.
 use crate::code_of;
 use binding::packed;
+use refusal::number_of;
 use vectors::{Call, Record, pair};
 
 // Room for the longest buffer.
@@ -48,7 +49,7 @@ fn decodes<F: Fn(Call, &[u8], &[u8], &mut [u8], &mut [u8]) -> u64>(record: &Reco
 pub fn run_encode(record: &Record) -> bool {
     writes(
         record,
-        |call, a, b| pair(encode::encode(code_of(call), a, b), 0),
+        |call, a, b| pair(number_of(encode::encode(code_of(call), a, b)), 0),
     )
 }
 
@@ -56,7 +57,7 @@ pub fn run_weights(record: &Record) -> bool {
     let call = record.call;
     let mut room = [0u8; ROOM];
     let a = record.buffer(0).fill(&mut room[..]);
-    let refusal = binding::weights_into(code_of(call), call.slot, a);
+    let refusal = number_of(binding::weights_into(code_of(call), call.slot, a));
     record.agrees(pair(refusal, 0), &[a])
 }
 
@@ -70,7 +71,10 @@ pub fn run_repair(record: &Record) -> bool {
 pub fn run_rebuild(record: &Record) -> bool {
     writes(
         record,
-        |call, a, b| pair(repair::rebuild(code_of(call), call.slot, a, b), 0),
+        |call, a, b| pair(
+            number_of(repair::rebuild(code_of(call), call.slot, a, b)),
+            0,
+        ),
     )
 }
 
@@ -93,7 +97,7 @@ pub fn run_pass(record: &Record) -> bool {
 pub fn run_decode(record: &Record) -> bool {
     decodes(
         record,
-        |call, a, b, c, d| pair(decode::decode(code_of(call), a, b, c, d), 0),
+        |call, a, b, c, d| pair(number_of(decode::decode(code_of(call), a, b, c, d)), 0),
     )
 }
 
@@ -118,7 +122,7 @@ pub fn run_write(record: &Record) -> bool {
     let a = record.buffer(0).fill(&mut room_a[..]);
     let b = record.buffer(1).fill(&mut room_b[..]);
     let c = record.buffer(2).fill(&mut room_c[..]);
-    let refusal = sheet::write_sheet(code_of(record.call), a, b, c);
+    let refusal = number_of(sheet::write_sheet(code_of(record.call), a, b, c));
     record.agrees(pair(refusal, 0), &[a, b, c])
 }
 
@@ -132,6 +136,6 @@ pub fn run_sheet(record: &Record) -> bool {
     let b = record.buffer(1).fill(&mut room_b[..]);
     let c = record.buffer(2).fill(&mut room_c[..]);
     let d = record.buffer(3).fill(&mut room_d[..]);
-    let refusal = sheet_binding::read_into(a, b, c, d);
+    let refusal = number_of(sheet_binding::read_into(a, b, c, d));
     record.agrees(pair(refusal, 0), &[a, b, c]) && record.leaves(3, d)
 }
