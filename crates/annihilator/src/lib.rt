@@ -5,7 +5,6 @@ ghost use Rattle.std.specs.Prelude.{◌≡◌, not, ℕ, ◌+◌, ◌*◌, ◌�
 ghost use Rattle.algebra.specs.Sequence.{at, count};
 ghost use Rattle.algebra.specs.Writing.{Written};
 ghost use Rattle.field.specs.Field.{q};
-ghost use Rattle.field.specs.Table.{Powers, Logs};
 ghost use Rattle.interpolation.specs.Step.{kept};
 ghost use Rattle.annihilator.specs.Annihilator.{Annihilated};
 ghost use Rattle.annihilator.specs.Step.{Vanishes, shifted, Gathered, Cofactors};
@@ -70,23 +69,13 @@ fn fill_row(row: &[u8; 256], e: usize, t: usize, target: &mut [u8])
 }
 
 // Takes in the equation of gap j. It has no constant, so it contradicts no other.
-fn take_gap(
-    field: u32,
-    t: usize,
-    size: usize,
-    r: usize,
-    j: usize,
-    row: &[u8; 256],
-    work: &mut [u8],
-    powers: &[u8; 255],
-    logs: &[u8; 256],
-)
-    requires { (t ≤ 255) × (j * size + r < 256) × ((m : ℕ) → at row.now m < q field) × Gathered field t size r row.now j work.old × Powers 1 powers.now × Logs logs.now }
+fn take_gap(field: u32, t: usize, size: usize, r: usize, j: usize, row: &[u8; 256], work: &mut [u8])
+    requires { (t ≤ 255) × (j * size + r < 256) × ((m : ℕ) → at row.now m < q field) × Gathered field t size r row.now j work.old }
     ensures { Gathered field t size r row.now (j + 1) work.new }
 {
     let start = t * (t + 1);
     fill_row(row, j * size + r, t, &mut work[start..]);
-    linear::insert(field, t, 0, work, powers, logs);
+    linear::insert(field, t, 0, work);
 }
 
 // Takes in the equations of all gaps.
@@ -98,15 +87,13 @@ fn take_gaps(
     gaps: usize,
     row: &[u8; 256],
     work: &mut [u8],
-    powers: &[u8; 255],
-    logs: &[u8; 256],
 )
-    requires { (t ≤ 255) × ((j : ℕ) → j < gaps → j * size + r < 256) × ((m : ℕ) → at row.now m < q field) × (t * (t + 1) + (t + 1) ≤ length work.old) × Powers 1 powers.now × Logs logs.now }
+    requires { (t ≤ 255) × ((j : ℕ) → j < gaps → j * size + r < 256) × ((m : ℕ) → at row.now m < q field) × (t * (t + 1) + (t + 1) ≤ length work.old) }
     ensures { Gathered field t size r row.now gaps work.new }
 {
     work.fill(0);
     for j in 0..gaps {
-        take_gap(field, t, size, r, j, row, work, powers, logs);
+        take_gap(field, t, size, r, j, row, work);
     }
 }
 
@@ -119,15 +106,13 @@ fn only_cofactor(
     gaps: usize,
     row: &[u8; 256],
     work: &mut [u8],
-    powers: &[u8; 255],
-    logs: &[u8; 256],
 ) -> bool
-    requires { (t ≤ 255) × ((j : ℕ) → j < gaps → j * size + r < 256) × ((m : ℕ) → at row.now m < q field) × (t * (t + 1) + (t + 1) ≤ length work.old) × Powers 1 powers.now × Logs logs.now }
+    requires { (t ≤ 255) × ((j : ℕ) → j < gaps → j * size + r < 256) × ((m : ℕ) → at row.now m < q field) × (t * (t + 1) + (t + 1) ≤ length work.old) }
     ensures { Cofactors field t size r gaps row.now result }
 {
-    take_gaps(field, t, size, r, gaps, row, work, powers, logs);
+    take_gaps(field, t, size, r, gaps, row, work);
     let mut solution = [0u8; 256];
-    linear::finish(field, work, t, &mut solution[..t], powers, logs)
+    linear::finish(field, work, t, &mut solution[..t])
 }
 
 // Whether 0 is the only polynomial of `most` coefficients that is 0 at the kept places and has no coefficient at the gaps. work may hold anything, before and after.
@@ -140,16 +125,13 @@ pub fn only_zero(
     points: &[u8; 256],
     marks: &[u8],
     work: &mut [u8],
-    powers: &[u8; 255],
-    logs: &[u8; 256],
 ) -> bool
     requires { (length marks.now ≤ 255) × (most ≤ 255)
         × ((p : ℕ) → p < length marks.now → at points.now p < q field)
         × ((i j : ℕ) → i < length marks.now → j < length marks.now → at points.now i ≡ at points.now j → i ≡ j)
         × (count (λ p. not (eqb (at marks.now p) 1)) (length marks.now) < most)
         × ((j : ℕ) → j < gaps → j * size + r < most)
-        × (gaps * (gaps + 1) + (gaps + 1) ≤ length work.old)
-        × Powers 1 powers.now × Logs logs.now }
+        × (gaps * (gaps + 1) + (gaps + 1) ≤ length work.old) }
     ensures { Annihilated field (length marks.now) size r gaps most points.now marks.now result }
 {
     let t = most - count_kept(marks);
@@ -159,15 +141,5 @@ pub fn only_zero(
     let mut row = [0u8; 256];
     vanishing(field, points, marks, &mut row);
     let used = t * (t + 1) + (t + 1);
-    only_cofactor(
-        field,
-        t,
-        size,
-        r,
-        gaps,
-        &row,
-        &mut work[..used],
-        powers,
-        logs,
-    )
+    only_cofactor(field, t, size, r, gaps, &row, &mut work[..used])
 }

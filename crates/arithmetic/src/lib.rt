@@ -6,7 +6,6 @@ ghost use Rattle.algebra.specs.Sequence.{at};
 ghost use Rattle.algebra.specs.Writing.{Written};
 ghost use Rattle.field.specs.Field.{plus, minus, times, power, inverse, doubled};
 ghost use Rattle.field.specs.Polynomial.{dotted};
-ghost use Rattle.field.specs.Table.{Powers, Logs};
 
 // a + b
 pub fn add(field: u32, a: u8, b: u8) -> u8
@@ -29,8 +28,7 @@ pub fn sub(field: u32, a: u8, b: u8) -> u8
 }
 
 // a * b, over bytes by logarithms.
-pub fn mul(field: u32, a: u8, b: u8, powers: &[u8; 255], logs: &[u8; 256]) -> u8
-    requires { Powers 1 powers.now × Logs logs.now }
+pub fn mul(field: u32, a: u8, b: u8) -> u8
     ensures { result ≡ times field a b }
 {
     if field == 0 {
@@ -42,17 +40,16 @@ pub fn mul(field: u32, a: u8, b: u8, powers: &[u8; 255], logs: &[u8; 256]) -> u8
     if b == 0 {
         return 0;
     }
-    let i = logs[a as usize] as usize;
-    let j = logs[b as usize] as usize;
-    powers[(i + j) % 255]
+    let i = tables::logarithm(a);
+    let j = tables::logarithm(b);
+    tables::byte_power((i + j) % 255)
 }
 
 // a + c * b
-pub fn mul_add(field: u32, a: u8, c: u8, b: u8, powers: &[u8; 255], logs: &[u8; 256]) -> u8
-    requires { Powers 1 powers.now × Logs logs.now }
+pub fn mul_add(field: u32, a: u8, c: u8, b: u8) -> u8
     ensures { result ≡ plus field a (times field c b) }
 {
-    let p = mul(field, c, b, powers, logs);
+    let p = mul(field, c, b);
     add(field, a, p)
 }
 
@@ -69,11 +66,9 @@ fn byte_product(a: u8, b: u8) -> u8
 {
     let mut multiple = a;
     let mut sum: u8 = 0;
-    let mut i: u32 = 0;
-    while i < 8 {
-        sum = sum ^ (b >> i) % 2 * multiple;
+    for i in 0..8u32 {
+        sum ^= (b >> i) % 2 * multiple;
         multiple = double(multiple);
-        i += 1;
     }
     sum
 }
@@ -89,44 +84,38 @@ pub fn product(field: u32, a: u8, b: u8) -> u8
 }
 
 // a to the power e.
-pub fn power_of(field: u32, a: u8, e: u32, powers: &[u8; 255], logs: &[u8; 256]) -> u8
-    requires { Powers 1 powers.now × Logs logs.now }
+pub fn power_of(field: u32, a: u8, e: u32) -> u8
     ensures { result ≡ power field a e }
 {
     let mut p: u8 = 1;
-    let mut i: u32 = 0;
-    while i < e {
-        p = mul(field, a, p, powers, logs);
-        i += 1;
+    for _ in 0..e {
+        p = mul(field, a, p);
     }
     p
 }
 
 // 1 / a, and 0 of 0; over bytes by logarithms.
-pub fn inverse_of(field: u32, a: u8, powers: &[u8; 255], logs: &[u8; 256]) -> u8
-    requires { Powers 1 powers.now × Logs logs.now }
+pub fn inverse_of(field: u32, a: u8) -> u8
     ensures { result ≡ inverse field a }
 {
     if field == 0 {
-        return power_of(field, a, 11, powers, logs);
+        return power_of(field, a, 11);
     }
     if a == 0 {
         return 0;
     }
-    let i = logs[a as usize] as usize;
-    powers[(255 - i) % 255]
+    let i = tables::logarithm(a);
+    tables::byte_power((255 - i) % 255)
 }
 
 // The sum of a[i] * b[i] over the first n entries.
-pub fn dot(field: u32, a: &[u8], b: &[u8], n: usize, powers: &[u8; 255], logs: &[u8; 256]) -> u8
-    requires { Powers 1 powers.now × Logs logs.now × (n ≤ length a.now) × (n ≤ length b.now) }
+pub fn dot(field: u32, a: &[u8], b: &[u8], n: usize) -> u8
+    requires { (n ≤ length a.now) × (n ≤ length b.now) }
     ensures { result ≡ dotted field (take n a.now) (take n b.now) }
 {
     let mut sum: u8 = 0;
-    let mut i: usize = 0;
-    while i < n {
-        sum = mul_add(field, sum, a[i], b[i], powers, logs);
-        i += 1;
+    for i in 0..n {
+        sum = mul_add(field, sum, a[i], b[i]);
     }
     sum
 }
@@ -136,11 +125,8 @@ pub fn add_scaled(field: u32, target: &mut [u8], source: &[u8], from: usize, to:
     requires { (from ≤ to) × (to ≤ length target.old) × (to ≤ length source.now) }
     ensures { Written (λ p. plus field (at target.old p) (times field c (at source.now p))) from to target.old target.new }
 {
-    let mut p = from;
-    while p < to {
+    for p in from..to {
         let s = product(field, c, source[p]);
-        let v = add(field, target[p], s);
-        target[p] = v;
-        p += 1;
+        target[p] = add(field, target[p], s);
     }
 }

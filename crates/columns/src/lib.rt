@@ -11,9 +11,7 @@ pub fn rebuild_column(field: u32, weights: &[u8; 16], r: usize, mates: &[u8]) ->
     requires { (r ≤ length weights.now) × (r ≤ length mates.now) }
     ensures { result ≡ dotted field (take r weights.now) (take r mates.now) }
 {
-    let powers = tables::power_table();
-    let logs = tables::log_table();
-    arithmetic::dot(field, weights, mates, r, &powers, &logs)
+    arithmetic::dot(field, weights, mates, r)
 }
 
 // Adds w times the symbols from offset o on to the output.

@@ -2,7 +2,6 @@
 #![tactic(auto)]
 
 ghost use Rattle.std.specs.Prelude.{◌≡◌, length};
-ghost use Rattle.field.specs.Table.{Powers, Logs};
 ghost use Rattle.code.specs.Laws.{Decodable};
 ghost use Rattle.code.specs.Step.{Received};
 ghost use Rattle.copy_mending.specs.Step.{MendedCopy};
@@ -10,19 +9,11 @@ ghost use Rattle.copy_mending.specs.Step.{MendedCopy};
 use code::Shape;
 
 // Copies the kept symbols and the marks, and mends the copy; answers how many groups were mended. Lost symbols are not read.
-pub fn mend_copy(
-    shape: Shape,
-    word: &[u8],
-    marks: &[u8],
-    copy: &mut [u8],
-    left: &mut [u8],
-    powers: &[u8; 255],
-    logs: &[u8; 256],
-) -> u32
-    requires { Decodable shape × Received shape word.now marks.now × (length copy.old ≡ shape.n) × (length left.old ≡ shape.n) × Powers 1 powers.now × Logs logs.now }
+pub fn mend_copy(shape: Shape, word: &[u8], marks: &[u8], copy: &mut [u8], left: &mut [u8]) -> u32
+    requires { Decodable shape × Received shape word.now marks.now × (length copy.old ≡ shape.n) × (length left.old ≡ shape.n) }
     ensures { MendedCopy shape word.now marks.now copy.new left.new result }
 {
     interpolation::load(word, marks, copy);
     left.copy_from_slice(marks);
-    mending::mend_groups(shape, copy, left, powers, logs)
+    mending::mend_groups(shape, copy, left)
 }

@@ -2,7 +2,6 @@
 #![tactic(auto)]
 
 ghost use Rattle.std.specs.Prelude.{◌≡◌, not, ◌+◌, ◌*◌, ◌≤◌, ◌<◌, length, replicate};
-ghost use Rattle.field.specs.Table.{Powers, Logs};
 ghost use Rattle.code.specs.Codeword.{guarantee};
 ghost use Rattle.code.specs.Decoding.{undecided};
 ghost use Rattle.code.specs.Erasure.{lost_number};
@@ -12,14 +11,8 @@ ghost use Rattle.deciding.specs.Step.{system_size, Annulled};
 use code::Shape;
 
 // Of whole groups: the codewords are the values of polynomials with no coefficient at the gaps.
-fn only_zero(
-    shape: Shape,
-    marks: &[u8],
-    work: &mut [u8],
-    powers: &[u8; 255],
-    logs: &[u8; 256],
-) -> bool
-    requires { Whole shape × (shape.tolerance ≡ 1) × (length marks.now ≡ shape.n) × (guarantee shape < lost_number shape marks.now) × (system_size shape ≤ length work.old) × Powers 1 powers.now × Logs logs.now }
+fn only_zero(shape: Shape, marks: &[u8], work: &mut [u8]) -> bool
+    requires { Whole shape × (shape.tolerance ≡ 1) × (length marks.now ≡ shape.n) × (guarantee shape < lost_number shape marks.now) × (system_size shape ≤ length work.old) }
     ensures { Annulled shape marks.now result }
 {
     let n = shape.n as usize;
@@ -29,57 +22,34 @@ fn only_zero(
     let most = n - losses::guarantee_of(shape) as usize;
     let gaps = (k - 1) / r;
     let mut points = [0u8; 256];
-    fitting::fill_points(shape, &mut points, powers);
-    annihilator::only_zero(
-        shape.field,
-        most,
-        size,
-        r,
-        gaps,
-        &points,
-        marks,
-        work,
-        powers,
-        logs,
-    )
+    fitting::fill_points(shape, &mut points);
+    annihilator::only_zero(shape.field, most, size, r, gaps, &points, marks, work)
 }
 
 // Of any code, as one of whole groups whose missing places are kept: whether the kept slots decide, for losses past the guarantee.
-fn decided_past(
-    shape: Shape,
-    marks: &[u8],
-    work: &mut [u8],
-    powers: &[u8; 255],
-    logs: &[u8; 256],
-) -> bool
-    requires { Decodable shape × (length marks.now ≡ shape.n) × (guarantee shape < lost_number shape marks.now) × (shape.k * (shape.k + 1) + (shape.k + 1) ≤ length work.old) × Powers 1 powers.now × Logs logs.now }
+fn decided_past(shape: Shape, marks: &[u8], work: &mut [u8]) -> bool
+    requires { Decodable shape × (length marks.now ≡ shape.n) × (guarantee shape < lost_number shape marks.now) × (shape.k * (shape.k + 1) + (shape.k + 1) ≤ length work.old) }
     ensures { result ≡ not (undecided shape marks.now) }
 {
     let places = layout::room_of(shape) as usize;
     let mother = shortening::mother_of(shape);
     let mut all = [0u8; 256];
     all[..marks.len()].copy_from_slice(marks);
-    only_zero(mother, &all[..places], work, powers, logs)
+    only_zero(mother, &all[..places], work)
 }
 
 // After the groups that have lost one slot have repaired it: within the guarantee the rest is decided.
-fn decided_left(
-    shape: Shape,
-    marks: &mut [u8],
-    work: &mut [u8],
-    powers: &[u8; 255],
-    logs: &[u8; 256],
-) -> bool
-    requires { Decodable shape × (length marks.old ≡ shape.n) × (shape.k * (shape.k + 1) + (shape.k + 1) ≤ length work.old) × Powers 1 powers.now × Logs logs.now }
+fn decided_left(shape: Shape, marks: &mut [u8], work: &mut [u8]) -> bool
+    requires { Decodable shape × (length marks.old ≡ shape.n) × (shape.k * (shape.k + 1) + (shape.k + 1) ≤ length work.old) }
     ensures { result ≡ not (undecided shape marks.old) }
 {
     let n = shape.n as usize;
     let mut word = [0u8; 256];
-    mending::mend_groups(shape, &mut word[..n], marks, powers, logs);
+    mending::mend_groups(shape, &mut word[..n], marks);
     if losses::count_lost(shape, marks) <= losses::guarantee_of(shape) {
         return true;
     }
-    decided_past(shape, marks, work, powers, logs)
+    decided_past(shape, marks, work)
 }
 
 // Whether the kept slots decide every message. All of work is left 0.
@@ -87,12 +57,10 @@ pub fn decided(shape: Shape, marks: &[u8], work: &mut [u8]) -> bool
     requires { Decodable shape × (length marks.now ≡ shape.n) × (shape.k * (shape.k + 1) + (shape.k + 1) ≤ length work.old) }
     ensures { (result ≡ not (undecided shape marks.now)) × (work.new ≡ replicate (length work.old) 0) }
 {
-    let powers = tables::power_table();
-    let logs = tables::log_table();
     let mut room = [0u8; 256];
     let left = &mut room[..marks.len()];
     left.copy_from_slice(marks);
-    let lone = decided_left(shape, left, work, &powers, &logs);
+    let lone = decided_left(shape, left, work);
     work.fill(0);
     lone
 }

@@ -2,7 +2,6 @@
 #![tactic(auto)]
 
 ghost use Rattle.std.specs.Prelude.{◌≡◌, length, replicate};
-ghost use Rattle.field.specs.Table.{Powers, Logs};
 ghost use Rattle.code.specs.Family.{single, code_refusal};
 ghost use Rattle.code.specs.Laws.{Decodable};
 ghost use Rattle.code.specs.Verdict.{Verdict};
@@ -22,18 +21,16 @@ fn settle_left(
     left: &[u8],
     message: &mut [u8],
     work: &mut [u8],
-    powers: &[u8; 255],
-    logs: &[u8; 256],
 ) -> Result<(), Refusal>
-    requires { Decodable shape × Task shape copy.now left.now message.old work.old × Powers 1 powers.now × Logs logs.now }
+    requires { Decodable shape × Task shape copy.now left.now message.old work.old }
     ensures { Verdict shape copy.now left.now message.old message.new (number_of result) × (work.new ≡ replicate (length work.old) 0) }
 {
-    match solving::solve_sure(shape, copy, left, message, powers, logs) {
+    match solving::solve_sure(shape, copy, left, message) {
         Some(decided) => {
             work.fill(0);
             decided
         }
-        None => elimination::solve_beyond(shape, copy, left, message, work, powers, logs),
+        None => elimination::solve_beyond(shape, copy, left, message, work),
     }
 }
 
@@ -51,10 +48,8 @@ fn solve_near(
     requires { Decodable shape × Task shape word.now marks.now message.old work.old × (length copy.old ≡ shape.n) × (length left.old ≡ shape.n) }
     ensures { NearSolved shape word.now marks.now (answer_of result) message.old message.new × (work.new ≡ replicate (length work.old) 0) }
 {
-    let powers = tables::power_table();
-    let logs = tables::log_table();
-    let number = copy_mending::mend_copy(shape, word, marks, copy, left, &powers, &logs);
-    let verdict = settle_left(shape, copy, left, message, work, &powers, &logs);
+    let number = copy_mending::mend_copy(shape, word, marks, copy, left);
+    let verdict = settle_left(shape, copy, left, message, work);
     verdict?;
     Ok(number)
 }

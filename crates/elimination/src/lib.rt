@@ -2,7 +2,6 @@
 #![tactic(auto)]
 
 ghost use Rattle.std.specs.Prelude.{◌≡◌, ◌<◌, ◌≤◌, length, replicate};
-ghost use Rattle.field.specs.Table.{Powers, Logs};
 ghost use Rattle.code.specs.Laws.{Plain};
 ghost use Rattle.code.specs.Step.{Received};
 ghost use Rattle.code.specs.Verdict.{Verdict};
@@ -15,16 +14,8 @@ use code::Shape;
 use refusal::{Refusal, require};
 
 // Takes in the equation of slot p, if it is kept: false where no message is left.
-fn take_slot(
-    shape: Shape,
-    p: u32,
-    word: &[u8],
-    marks: &[u8],
-    work: &mut [u8],
-    powers: &[u8; 255],
-    logs: &[u8; 256],
-) -> bool
-    requires { Plain shape × (p < shape.n) × Received shape word.now marks.now × Echelon shape.field shape.k work.old × Powers 1 powers.now × Logs logs.now }
+fn take_slot(shape: Shape, p: u32, word: &[u8], marks: &[u8], work: &mut [u8]) -> bool
+    requires { Plain shape × (p < shape.n) × Received shape word.now marks.now × Echelon shape.field shape.k work.old }
     ensures { Taken shape p word.now marks.now work.old work.new result }
 {
     let i = p as usize;
@@ -34,25 +25,18 @@ fn take_slot(
     }
     let k = shape.k as usize;
     let t = k * (k + 1);
-    generator_matrix::fill_row(shape, p, &mut work[t..], powers, logs);
-    linear::insert(shape.field, k, word[i], work, powers, logs)
+    generator_matrix::fill_row(shape, p, &mut work[t..]);
+    linear::insert(shape.field, k, word[i], work)
 }
 
 // Takes in the equations of all kept slots: false where no message agrees with them.
-fn gather(
-    shape: Shape,
-    word: &[u8],
-    marks: &[u8],
-    work: &mut [u8],
-    powers: &[u8; 255],
-    logs: &[u8; 256],
-) -> bool
-    requires { Plain shape × Received shape word.now marks.now × (work_size shape ≤ length work.old) × Powers 1 powers.now × Logs logs.now }
+fn gather(shape: Shape, word: &[u8], marks: &[u8], work: &mut [u8]) -> bool
+    requires { Plain shape × Received shape word.now marks.now × (work_size shape ≤ length work.old) }
     ensures { Gathered shape word.now marks.now work.new result }
 {
     work.fill(0);
     for p in 0..shape.n {
-        if !take_slot(shape, p, word, marks, work, powers, logs) {
+        if !take_slot(shape, p, word, marks, work) {
             return false;
         }
     }
@@ -66,18 +50,16 @@ pub fn solve_beyond(
     marks: &[u8],
     message: &mut [u8],
     work: &mut [u8],
-    powers: &[u8; 255],
-    logs: &[u8; 256],
 ) -> Result<(), Refusal>
-    requires { Plain shape × Task shape word.now marks.now message.old work.old × Powers 1 powers.now × Logs logs.now }
+    requires { Plain shape × Task shape word.now marks.now message.old work.old }
     ensures { Verdict shape word.now marks.now message.old message.new (number_of result) × (work.new ≡ replicate (length work.old) 0) }
 {
-    if !gather(shape, word, marks, work, powers, logs) {
+    if !gather(shape, word, marks, work) {
         work.fill(0);
         return Err(Refusal::Foreign);
     }
     let k = shape.k as usize;
-    let one = linear::finish(shape.field, work, k, message, powers, logs);
+    let one = linear::finish(shape.field, work, k, message);
     work.fill(0);
     require(one, Refusal::Undecided)
 }

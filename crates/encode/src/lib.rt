@@ -2,7 +2,6 @@
 #![tactic(auto)]
 
 ghost use Rattle.std.specs.Prelude.{◌≡◌, true, false, ◌+◌, length};
-ghost use Rattle.field.specs.Table.{Powers, Logs};
 ghost use Rattle.code.specs.Family.{single, code_refusal};
 ghost use Rattle.code.specs.Shape.{missing, whole};
 ghost use Rattle.code.specs.Codeword.{is_message, encoded};
@@ -35,42 +34,29 @@ fn encode_asked(
 }
 
 // Writes the codeword of a message of a code with a short last group: of its row, in powers of g.
-fn write_short(
-    shape: Shape,
-    message: &[u8],
-    row: &mut [u8],
-    codeword: &mut [u8],
-    powers: &[u8; 255],
-    logs: &[u8; 256],
-)
-    requires { Powers 1 powers.now × Logs logs.now × Plain shape × (whole shape ≡ false) × (is_message shape message.now ≡ true) × (length row.old ≡ shape.k + missing shape) × (length codeword.old ≡ shape.n) }
+fn write_short(shape: Shape, message: &[u8], row: &mut [u8], codeword: &mut [u8])
+    requires { Plain shape × (whole shape ≡ false) × (is_message shape message.now ≡ true) × (length row.old ≡ shape.k + missing shape) × (length codeword.old ≡ shape.n) }
     ensures { codeword.new ≡ encoded shape message.now }
 {
-    lengthening::expand(shape, message, row, powers, logs);
-    let c = layout::constant_of(shape, powers);
-    evaluation::write_codeword(shape, row, c, codeword, powers, logs);
+    lengthening::expand(shape, message, row);
+    let c = layout::constant_of(shape);
+    evaluation::write_codeword(shape, row, c, codeword);
 }
 
 // Writes the codeword of a message. Where groups are whole the message is its row, in powers of X to the power of the group size.
-pub fn write_message(
-    shape: Shape,
-    message: &[u8],
-    codeword: &mut [u8],
-    powers: &[u8; 255],
-    logs: &[u8; 256],
-)
-    requires { Powers 1 powers.now × Logs logs.now × Plain shape × (is_message shape message.now ≡ true) × (length codeword.old ≡ shape.n) }
+pub fn write_message(shape: Shape, message: &[u8], codeword: &mut [u8])
+    requires { Plain shape × (is_message shape message.now ≡ true) × (length codeword.old ≡ shape.n) }
     ensures { codeword.new ≡ encoded shape message.now }
 {
     let missing = layout::missing_of(shape) as usize;
     let whole = missing == 0;
     if whole {
-        evaluation::write_codeword(shape, message, 0, codeword, powers, logs);
+        evaluation::write_codeword(shape, message, 0, codeword);
     } else {
         let long = message.len() + missing;
         let mut room = [0u8; 256];
         let row = &mut room[..long];
-        write_short(shape, message, row, codeword, powers, logs);
+        write_short(shape, message, row, codeword);
     }
 }
 
@@ -86,9 +72,7 @@ pub fn encode_with(
     ensures { EncodeSays (number_of asked) shape message.now (number_of result) codeword.old codeword.new }
 {
     encode_asked(asked, shape, message, codeword.len())?;
-    let powers = tables::power_table();
-    let logs = tables::log_table();
-    write_message(shape, message, codeword, &powers, &logs);
+    write_message(shape, message, codeword);
     Ok(())
 }
 

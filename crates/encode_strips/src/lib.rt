@@ -57,11 +57,9 @@ fn encode_columns(
     requires { Plain shape × (1 ≤ l) × (l ≤ 4096) × (length messages.now ≡ shape.k * l) × (all_below (q shape.field) messages.now ≡ true) × (length message.old ≡ shape.k) × (length codeword.old ≡ shape.n) × (length codewords.old ≡ shape.n * l) }
     ensures { codewords.new ≡ encoded_strips shape l messages.now }
 {
-    let powers = tables::power_table();
-    let logs = tables::log_table();
     for c in 0..l {
         strip_columns::take_column(messages, l, c, message);
-        encode::write_message(shape, message, codeword, &powers, &logs);
+        encode::write_message(shape, message, codeword);
         strip_columns::put_column(codeword, codewords, l, c);
     }
 }

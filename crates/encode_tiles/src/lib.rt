@@ -37,16 +37,14 @@ pub fn write_tiles(shape: Shape, messages: &[u8], l: usize, codewords: &mut [u8]
     requires { ByteCode shape × (1 ≤ l) × (l ≤ 4096) × (length messages.now ≡ shape.k * l) × (all_below (q shape.field) messages.now ≡ true) × (length codewords.old ≡ shape.n * l) }
     ensures { codewords.new ≡ encoded_strips shape l messages.now }
 {
-    let powers = tables::power_table();
-    let logs = tables::log_table();
     let mut folds = [0u8; 8192];
     let mut values = [0u8; 8192];
     let mut tiles = [0u8; 4096];
     let mut table = [0u8; 16384];
     let mut coefs = [0u8; 65536];
     let mut tile = [0u8; 256];
-    group_plans::plan_groups(shape, &mut folds, &powers, &logs);
-    group_plans::plan_slots(shape, &mut values, &powers, &logs);
+    group_plans::plan_groups(shape, &mut folds);
+    group_plans::plan_slots(shape, &mut values);
     write_chunks(
         shape, messages, l, &folds, &values, &mut tiles, &mut table, &mut coefs, &mut tile,
         codewords,

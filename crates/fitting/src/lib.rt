@@ -2,7 +2,6 @@
 #![tactic(auto)]
 
 ghost use Rattle.std.specs.Prelude.{◌≡◌, ◌+◌, ◌*◌, ◌≤◌, ◌<◌, length};
-ghost use Rattle.field.specs.Table.{Powers, Logs};
 ghost use Rattle.code.specs.Shape.{size, groups, room};
 ghost use Rattle.code.specs.Codeword.{guarantee};
 ghost use Rattle.code.specs.Erasure.{lost_number};
@@ -16,25 +15,25 @@ use code::Shape;
 use refusal::{Refusal, require};
 
 // Writes the points of a group's slots; those of the groups before it are there.
-fn fill_group(shape: Shape, group: u32, points: &mut [u8; 256], powers: &[u8; 255])
-    requires { Powers 1 powers.now × Whole shape × (group < groups shape) × (length points.old ≡ 256) × Pointed shape (group * size shape) points.old }
+fn fill_group(shape: Shape, group: u32, points: &mut [u8; 256])
+    requires { Whole shape × (group < groups shape) × (length points.old ≡ 256) × Pointed shape (group * size shape) points.old }
     ensures { (length points.new ≡ 256) × Pointed shape ((group + 1) * size shape) points.new }
 {
     let size = layout::size_of(shape);
     for i in 0..size {
         let slot = layout::slot_at(shape, group, i) as usize;
-        points[slot] = layout::point_at(shape, group, i, powers);
+        points[slot] = layout::point_at(shape, group, i);
     }
 }
 
 // Writes the points of the slots.
-pub fn fill_points(shape: Shape, points: &mut [u8; 256], powers: &[u8; 255])
-    requires { Powers 1 powers.now × Whole shape × (length points.old ≡ 256) }
+pub fn fill_points(shape: Shape, points: &mut [u8; 256])
+    requires { Whole shape × (length points.old ≡ 256) }
     ensures { Pointed shape (room shape) points.new }
 {
     let groups = layout::groups_of(shape);
     for group in 0..groups {
-        fill_group(shape, group, points, powers);
+        fill_group(shape, group, points);
     }
 }
 
@@ -73,17 +72,15 @@ pub fn solve_within(
     word: &[u8],
     marks: &[u8],
     message: &mut [u8],
-    powers: &[u8; 255],
-    logs: &[u8; 256],
 ) -> Result<(), Refusal>
-    requires { Whole shape × (shape.tolerance ≡ 1) × Received shape word.now marks.now × (length message.old ≡ shape.k) × (lost_number shape marks.now ≤ guarantee shape) × Powers 1 powers.now × Logs logs.now }
+    requires { Whole shape × (shape.tolerance ≡ 1) × Received shape word.now marks.now × (length message.old ≡ shape.k) × (lost_number shape marks.now ≤ guarantee shape) }
     ensures { Verdict shape word.now marks.now message.old message.new (number_of result) }
 {
     let n = shape.n as usize;
     let sure = losses::guarantee_of(shape) as usize;
     let mut points = [0u8; 256];
     let mut coefs = [0u8; 256];
-    fill_points(shape, &mut points, powers);
+    fill_points(shape, &mut points);
     let interpolated = interpolation::interpolate(
         shape.field,
         n - sure,
@@ -91,8 +88,6 @@ pub fn solve_within(
         word,
         marks,
         &mut coefs,
-        powers,
-        logs,
     );
     require(interpolated, Refusal::Foreign)?;
     require(gaps_zero(shape, &coefs), Refusal::Foreign)?;

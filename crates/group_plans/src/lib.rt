@@ -2,7 +2,6 @@
 #![tactic(auto)]
 
 ghost use Rattle.std.specs.Prelude.{◌≡◌, ◌⊎◌, ◌*◌, ◌≤◌, length};
-ghost use Rattle.field.specs.Table.{Powers, Logs};
 ghost use Rattle.code.specs.Laws.{Placed};
 ghost use Rattle.group_plans.specs.Plan.{blocks, tables_for, GroupsPlanned, SlotsPlanned, ByteCode};
 
@@ -24,29 +23,29 @@ pub fn tables_for(n: usize) -> usize
 }
 
 // Plans the folds: for each group the powers of its level.
-pub fn plan_groups(shape: Shape, plan: &mut [u8], powers: &[u8; 255], logs: &[u8; 256])
-    requires { Powers 1 powers.now × Logs logs.now × ByteCode shape × (length plan.old ≡ 8192) }
+pub fn plan_groups(shape: Shape, plan: &mut [u8])
+    requires { ByteCode shape × (length plan.old ≡ 8192) }
     ensures { (length plan.new ≡ 8192) × GroupsPlanned shape plan.new }
 {
     let groups = layout::groups_of(shape);
     let blocks = blocks_of(shape);
     let g = tables_for(blocks);
     for j in 0..groups {
-        let y = layout::group_power(shape, j, powers);
-        tile_evaluation::plan_powers(y, blocks, g, plan, j as usize * 32, powers, logs);
+        let y = layout::group_power(shape, j);
+        tile_evaluation::plan_powers(y, blocks, g, plan, j as usize * 32);
     }
 }
 
 // Plans the values: for each slot the powers of its point. One function for this and plan_groups would take the points as a closure
 // and promise both plans: no plainer.
-pub fn plan_slots(shape: Shape, plan: &mut [u8], powers: &[u8; 255], logs: &[u8; 256])
-    requires { Powers 1 powers.now × Logs logs.now × ByteCode shape × (length plan.old ≡ 8192) }
+pub fn plan_slots(shape: Shape, plan: &mut [u8])
+    requires { ByteCode shape × (length plan.old ≡ 8192) }
     ensures { (length plan.new ≡ 8192) × SlotsPlanned shape plan.new }
 {
     let r = shape.r as usize;
     let g = tables_for(r);
     for p in 0..shape.n {
-        let x = layout::point_of(shape, p, powers);
-        tile_evaluation::plan_powers(x, r, g, plan, p as usize * 32, powers, logs);
+        let x = layout::point_of(shape, p);
+        tile_evaluation::plan_powers(x, r, g, plan, p as usize * 32);
     }
 }

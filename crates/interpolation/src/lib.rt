@@ -6,7 +6,6 @@ ghost use Rattle.std.specs.Prelude.{◌≡◌, ◌≢◌, List, ℕ, ◌+◌, �
 ghost use Rattle.algebra.specs.Sequence.{at, count};
 ghost use Rattle.algebra.specs.Writing.{Written};
 ghost use Rattle.field.specs.Field.{q, plus, minus, times};
-ghost use Rattle.field.specs.Table.{Powers, Logs};
 ghost use Rattle.interpolation.specs.Interpolated.{masked, Interpolated};
 ghost use Rattle.interpolation.specs.Step.{Shifted, Multiplied, kept, Nodes, Rooms, Newton, Settled, Agreed};
 
@@ -104,10 +103,8 @@ fn advance(
     basis: &mut [u8; 256],
     values: &mut [u8; 256],
     rests: &mut [u8; 256],
-    powers: &[u8; 255],
-    logs: &[u8; 256],
 ) -> usize
-    requires { (length marks.now ≤ 255) × (i < length marks.now) × (c < 255) × Nodes field (length marks.now) points.now × Rooms coefs.old basis.old values.old rests.old × Powers 1 powers.now × Logs logs.now }
+    requires { (length marks.now ≤ 255) × (i < length marks.now) × (c < 255) × Nodes field (length marks.now) points.now × Rooms coefs.old basis.old values.old rests.old }
     ensures { Rooms coefs.new basis.new values.new rests.new × ((wants : List ℕ)
         → Newton field (length marks.now) points.now wants marks.now i c coefs.old basis.old values.old rests.old
         → Newton field (length marks.now) points.now wants marks.now (i + 1) result coefs.new basis.new values.new rests.new) }
@@ -116,7 +113,7 @@ fn advance(
         return c;
     }
     let y = points[i];
-    let v = arithmetic::inverse_of(field, values[i], powers, logs);
+    let v = arithmetic::inverse_of(field, values[i]);
     let k = arithmetic::product(field, rests[i], v);
     let h = arithmetic::sub(field, 0, k);
     let m = block_end(c + 1);
@@ -137,11 +134,9 @@ fn settle(
     marks: &[u8],
     coefs: &mut [u8; 256],
     rests: &mut [u8; 256],
-    powers: &[u8; 255],
-    logs: &[u8; 256],
 ) -> usize
     requires { (length coefs.old ≡ 256) × ((m : ℕ) → at coefs.old m ≡ 0) × (length rests.old ≡ 256) × (length marks.now ≤ 255) × Nodes field (length marks.now) points.now × ((p : ℕ) → p < length marks.now → at rests.old p < q field)
-        × (most ≤ count (kept marks.now) (length marks.now)) × Powers 1 powers.now × Logs logs.now }
+        × (most ≤ count (kept marks.now) (length marks.now)) }
     ensures { Settled field (length marks.now) most points.now rests.old marks.now result coefs.new rests.new }
 {
     let mut basis = [0u8; 256];
@@ -162,8 +157,6 @@ fn settle(
             &mut basis,
             &mut values,
             rests,
-            powers,
-            logs,
         );
     }
     marks.len()
@@ -185,20 +178,17 @@ pub fn interpolate(
     word: &[u8],
     marks: &[u8],
     coefs: &mut [u8; 256],
-    powers: &[u8; 255],
-    logs: &[u8; 256],
 ) -> bool
     requires { (length marks.now ≤ 255) × (length word.now ≡ length marks.now)
         × ((p : ℕ) → p < length marks.now → at points.now p < q field)
         × ((i j : ℕ) → i < length marks.now → j < length marks.now → at points.now i ≡ at points.now j → i ≡ j)
         × ((p : ℕ) → p < length marks.now → at marks.now p ≢ 1 → at word.now p < q field)
-        × (most + count (λ p. eqb (at marks.now p) 1) (length marks.now) ≤ length marks.now)
-        × Powers 1 powers.now × Logs logs.now }
+        × (most + count (λ p. eqb (at marks.now p) 1) (length marks.now) ≤ length marks.now) }
     ensures { Interpolated field (length marks.now) most points.now word.now marks.now coefs.new result }
 {
     let mut rests = [0u8; 256];
     load(word, marks, &mut rests);
     *coefs = [0; 256];
-    let i = settle(field, most, points, marks, coefs, &mut rests, powers, logs);
+    let i = settle(field, most, points, marks, coefs, &mut rests);
     agree(marks, &rests, i)
 }

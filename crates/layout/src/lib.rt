@@ -3,7 +3,6 @@
 
 ghost use Rattle.std.specs.Prelude.{◌≡◌, ◌+◌, ◌*◌, ◌-◌, ◌/◌, ◌%◌, ◌≤◌, ◌<◌, length};
 ghost use Rattle.algebra.specs.Sequence.{at};
-ghost use Rattle.field.specs.Table.{Powers};
 ghost use Rattle.field.specs.Field.{q, γ, power};
 ghost use Rattle.code.specs.Shape.{size, groups, room, missing, group, member, first, step, slot_at, members, point_at, point, mates, mates_number};
 ghost use Rattle.code.specs.Basis.{constant};
@@ -47,20 +46,20 @@ pub fn room_of(shape: Shape) -> u32
 }
 
 // The power size of the points of a group.
-pub fn group_power(shape: Shape, group: u32, powers: &[u8; 255]) -> u8
-    requires { Powers 1 powers.now × Placed shape × (group < groups shape) }
+pub fn group_power(shape: Shape, group: u32) -> u8
+    requires { Placed shape × (group < groups shape) }
     ensures { result ≡ power shape.field γ (group * size shape) }
 {
     let e = group * size_of(shape);
-    tables::power_at(shape.field, e, powers)
+    tables::generator_power(shape.field, e)
 }
 
 // That power of the last group's points: the constant of a short code's good polynomial.
-pub fn constant_of(shape: Shape, powers: &[u8; 255]) -> u8
-    requires { Powers 1 powers.now × Placed shape }
+pub fn constant_of(shape: Shape) -> u8
+    requires { Placed shape }
     ensures { result ≡ constant shape }
 {
-    group_power(shape, groups_of(shape) - 1, powers)
+    group_power(shape, groups_of(shape) - 1)
 }
 
 // The first slot of a group.
@@ -150,32 +149,27 @@ pub fn width_of(shape: Shape) -> u32
 }
 
 // The evaluation point of a member of a group, by that width and the table over bytes: for loops, which take the width once.
-pub fn member_point(field: u32, width: u32, group: u32, member: u32, powers: &[u8; 255]) -> u8
-    requires { Powers 1 powers.now × (group + member * width < q field - 1) }
+pub fn member_point(field: u32, width: u32, group: u32, member: u32) -> u8
+    requires { (group + member * width < q field - 1) }
     ensures { result ≡ power field γ (group + member * width) }
 {
-    tables::power_at(field, group + member * width, powers)
+    tables::generator_power(field, group + member * width)
 }
 
 // The evaluation point of a member of a group.
-pub fn point_at(shape: Shape, group: u32, member: u32, powers: &[u8; 255]) -> u8
-    requires { Powers 1 powers.now × Placed shape × (group < groups shape) × (member < size shape) }
+pub fn point_at(shape: Shape, group: u32, member: u32) -> u8
+    requires { Placed shape × (group < groups shape) × (member < size shape) }
     ensures { result ≡ point_at shape group member }
 {
-    member_point(shape.field, width_of(shape), group, member, powers)
+    member_point(shape.field, width_of(shape), group, member)
 }
 
 // The evaluation point of a place: of a slot, or of a missing member of a short last group.
-pub fn point_of(shape: Shape, place: u32, powers: &[u8; 255]) -> u8
-    requires { Powers 1 powers.now × Placed shape × (place < room shape) }
+pub fn point_of(shape: Shape, place: u32) -> u8
+    requires { Placed shape × (place < room shape) }
     ensures { result ≡ point shape place }
 {
-    point_at(
-        shape,
-        group_of(shape, place),
-        member_of(shape, place),
-        powers,
-    )
+    point_at(shape, group_of(shape, place), member_of(shape, place))
 }
 
 // The member of a group of which member is one that is its mate i: members in order, but for member.

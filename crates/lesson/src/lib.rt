@@ -28,9 +28,8 @@ fn put_powers<W: Write>(output: &mut W) -> Result<()> {
 fn put_points<W: Write>(output: &mut W, shape: Shape, group: u32, from: u32, to: u32) -> Result<()>
     requires { Placed shape × (group < groups shape) × (to ≤ size shape) }
 {
-    let powers = tables::power_table();
     for i in from..to {
-        write!(output, " {}", layout::point_at(shape, group, i, &powers))?;
+        write!(output, " {}", layout::point_at(shape, group, i))?;
     }
     Ok(())
 }
@@ -55,9 +54,8 @@ fn put_along<W: Write>(output: &mut W, shape: Shape) -> Result<()>
 {
     if shape.wiring == 1 {
         output.write_all(b"points")?;
-        let powers = tables::power_table();
         for slot in 0..shape.n {
-            write!(output, " {}", layout::point_of(shape, slot, &powers))?;
+            write!(output, " {}", layout::point_of(shape, slot))?;
         }
         output.write_all(b"\n")?;
     }
@@ -100,16 +98,15 @@ fn put_g_and_h<W: Write>(output: &mut W, shape: Shape) -> Result<()>
     if layout::missing_of(shape) == 0 {
         return Ok(());
     }
-    let powers = tables::power_table();
     let room = layout::room_of(shape);
     write!(
         output,
         "g x^{} - {}\nh",
         layout::size_of(shape),
-        layout::constant_of(shape, &powers)
+        layout::constant_of(shape)
     )?;
     for place in shape.n..room {
-        write!(output, " (x - {})", layout::point_of(shape, place, &powers))?;
+        write!(output, " (x - {})", layout::point_of(shape, place))?;
     }
     output.write_all(b"\n")
 }

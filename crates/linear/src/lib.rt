@@ -3,7 +3,6 @@
 
 ghost use Rattle.std.specs.Prelude.{◌≡◌, ℕ, ◌+◌, ◌*◌, ◌<◌, ◌≤◌, length, MatchOption};
 ghost use Rattle.field.specs.Field.{q, minus, inverse};
-ghost use Rattle.field.specs.Table.{Powers, Logs};
 ghost use Rattle.linear.specs.System.{entry, residue, Echelon, Inserted, Finished};
 ghost use Rattle.linear.specs.Step.{Added, Apart, Ready, WentThrough, WentThroughAll, Backed, Bared};
 
@@ -28,24 +27,16 @@ fn start(j: usize, w: usize) -> usize
 }
 
 // The factor that makes a row which starts with h start with -1.
-fn turn(field: u32, h: u8, powers: &[u8; 255], logs: &[u8; 256]) -> u8
-    requires { Powers 1 powers.now × Logs logs.now }
+fn turn(field: u32, h: u8) -> u8
     ensures { result ≡ minus field 0 (inverse field h) }
 {
-    let i = arithmetic::inverse_of(field, h, powers, logs);
+    let i = arithmetic::inverse_of(field, h);
     arithmetic::sub(field, 0, i)
 }
 
 // Takes the newcomer through column j: true where it became row j.
-fn step(
-    field: u32,
-    work: &mut [u8],
-    k: usize,
-    j: usize,
-    powers: &[u8; 255],
-    logs: &[u8; 256],
-) -> bool
-    requires { Ready field k j work.old × (j < k) × Powers 1 powers.now × Logs logs.now }
+fn step(field: u32, work: &mut [u8], k: usize, j: usize) -> bool
+    requires { Ready field k j work.old × (j < k) }
     ensures { WentThrough field k j work.old work.new result }
 {
     let w = k + 1;
@@ -57,7 +48,7 @@ fn step(
     let t = k * w + s;
     let b = j * w + s;
     if work[j * w + j] == 0 {
-        let c = turn(field, h, powers, logs);
+        let c = turn(field, h);
         add_row(field, work, b, t, w - s, c);
         return true;
     }
@@ -66,12 +57,12 @@ fn step(
 }
 
 // Takes the newcomer through all columns: false where it contradicts the rows.
-fn place(field: u32, work: &mut [u8], k: usize, powers: &[u8; 255], logs: &[u8; 256]) -> bool
-    requires { Ready field k 0 work.old × Powers 1 powers.now × Logs logs.now }
+fn place(field: u32, work: &mut [u8], k: usize) -> bool
+    requires { Ready field k 0 work.old }
     ensures { WentThroughAll field k work.old work.new result }
 {
     for j in 0..k {
-        if step(field, work, k, j, powers, logs) {
+        if step(field, work, k, j) {
             return true;
         }
     }
@@ -79,55 +70,33 @@ fn place(field: u32, work: &mut [u8], k: usize, powers: &[u8; 255], logs: &[u8; 
 }
 
 // Inserts the equation of the newcomer's coefficients and the right side v: false where no solution is left.
-pub fn insert(
-    field: u32,
-    k: usize,
-    v: u8,
-    work: &mut [u8],
-    powers: &[u8; 255],
-    logs: &[u8; 256],
-) -> bool
-    requires { Echelon field k work.old × ((m : ℕ) → m < k → entry k work.old k m < q field) × (v < q field) × Powers 1 powers.now × Logs logs.now }
+pub fn insert(field: u32, k: usize, v: u8, work: &mut [u8]) -> bool
+    requires { Echelon field k work.old × ((m : ℕ) → m < k → entry k work.old k m < q field) × (v < q field) }
     ensures { Inserted field k v work.old work.new result }
 {
     let c = arithmetic::sub(field, 0, v);
     work[k * (k + 1) + k] = c;
-    place(field, work, k, powers, logs)
+    place(field, work, k)
 }
 
 // The value of row i at ys.
-fn value(
-    field: u32,
-    work: &[u8],
-    i: usize,
-    k: usize,
-    ys: &[u8],
-    powers: &[u8; 255],
-    logs: &[u8; 256],
-) -> u8
-    requires { (i * (k + 1) + (k + 1) ≤ length work.now) × (length ys.now ≡ k) × Powers 1 powers.now × Logs logs.now }
+fn value(field: u32, work: &[u8], i: usize, k: usize, ys: &[u8]) -> u8
+    requires { (i * (k + 1) + (k + 1) ≤ length work.now) × (length ys.now ≡ k) }
     ensures { result ≡ residue field k work.now i ys.now }
 {
     let base = i * (k + 1);
-    let sum = arithmetic::dot(field, ys, &work[base..], k, powers, logs);
+    let sum = arithmetic::dot(field, ys, &work[base..], k);
     arithmetic::add(field, sum, work[base + k])
 }
 
 // Back substitution: the unknowns from the last to the first.
-fn back(
-    field: u32,
-    work: &[u8],
-    k: usize,
-    solution: &mut [u8],
-    powers: &[u8; 255],
-    logs: &[u8; 256],
-)
-    requires { Echelon field k work.now × (length solution.old ≡ k) × Powers 1 powers.now × Logs logs.now }
+fn back(field: u32, work: &[u8], k: usize, solution: &mut [u8])
+    requires { Echelon field k work.now × (length solution.old ≡ k) }
     ensures { Backed field k work.now solution.new }
 {
     solution.fill(0);
     for j in (0..k).rev() {
-        let v = value(field, work, j, k, solution, powers, logs);
+        let v = value(field, work, j, k, solution);
         solution[j] = v;
     }
 }
@@ -146,21 +115,14 @@ fn bare(work: &[u8], k: usize) -> Option<usize>
 }
 
 // True where there is just one solution, which is then written; else the solution stays as it was.
-pub fn finish(
-    field: u32,
-    work: &[u8],
-    k: usize,
-    solution: &mut [u8],
-    powers: &[u8; 255],
-    logs: &[u8; 256],
-) -> bool
-    requires { Echelon field k work.now × (length solution.old ≡ k) × Powers 1 powers.now × Logs logs.now }
+pub fn finish(field: u32, work: &[u8], k: usize, solution: &mut [u8]) -> bool
+    requires { Echelon field k work.now × (length solution.old ≡ k) }
     ensures { Finished field k work.now solution.old solution.new result }
 {
     match bare(work, k) {
         Some(_) => false,
         None => {
-            back(field, work, k, solution, powers, logs);
+            back(field, work, k, solution);
             true
         }
     }

@@ -3,7 +3,6 @@
 #![tactic(auto)]
 
 ghost use Rattle.std.specs.Prelude.{◌≡◌, ◌<◌, length};
-ghost use Rattle.field.specs.Table.{Powers, Logs};
 ghost use Rattle.code.specs.Shape.{groups};
 ghost use Rattle.code.specs.Pass.{passed, marks_after, mended};
 ghost use Rattle.code.specs.Laws.{Decodable};
@@ -13,15 +12,8 @@ ghost use Rattle.mending.specs.Step.{GroupMended};
 use code::Shape;
 
 // Repairs the lost symbol of a group with exactly one loss, where some codeword has its mates: 1 where it did.
-fn mend_group(
-    shape: Shape,
-    group: u32,
-    part: &mut [u8],
-    marks: &mut [u8],
-    powers: &[u8; 255],
-    logs: &[u8; 256],
-) -> u32
-    requires { Powers 1 powers.now × Logs logs.now × Decodable shape × (group < groups shape) × (length part.old ≡ span shape group) × (length marks.old ≡ span shape group) }
+fn mend_group(shape: Shape, group: u32, part: &mut [u8], marks: &mut [u8]) -> u32
+    requires { Decodable shape × (group < groups shape) × (length part.old ≡ span shape group) × (length marks.old ≡ span shape group) }
     ensures { GroupMended shape group part.old marks.old result part.new marks.new }
 {
     let members = layout::members_of(shape, group) as usize;
@@ -46,20 +38,14 @@ fn mend_group(
         }
     }
     let place = i * step;
-    part[place] = arithmetic::dot(shape.field, &weights, &mates, number, powers, logs);
+    part[place] = arithmetic::dot(shape.field, &weights, &mates, number);
     marks[place] = 0;
     1
 }
 
 // Lends each group's span of the word and the marks to the repair of one group, and counts the groups repaired.
-pub fn mend_groups(
-    shape: Shape,
-    word: &mut [u8],
-    marks: &mut [u8],
-    powers: &[u8; 255],
-    logs: &[u8; 256],
-) -> u32
-    requires { Powers 1 powers.now × Logs logs.now × Decodable shape × (length word.old ≡ shape.n) × (length marks.old ≡ shape.n) }
+pub fn mend_groups(shape: Shape, word: &mut [u8], marks: &mut [u8]) -> u32
+    requires { Decodable shape × (length word.old ≡ shape.n) × (length marks.old ≡ shape.n) }
     ensures { (word.new ≡ passed shape word.old marks.old) × (marks.new ≡ marks_after shape word.old marks.old) × (result ≡ mended shape word.old marks.old) }
 {
     let all = layout::groups_of(shape);
@@ -67,14 +53,7 @@ pub fn mend_groups(
     for j in 0..all {
         let start = layout::first_of(shape, j) as usize;
         let end = start + layout::span_of(shape, j) as usize;
-        let one = mend_group(
-            shape,
-            j,
-            &mut word[start..end],
-            &mut marks[start..end],
-            powers,
-            logs,
-        );
+        let one = mend_group(shape, j, &mut word[start..end], &mut marks[start..end]);
         number += one;
     }
     number

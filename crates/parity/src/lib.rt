@@ -3,7 +3,6 @@
 
 ghost use Rattle.std.specs.Prelude.{◌≡◌, ◌+◌, ◌≤◌, ◌<◌, length};
 ghost use Rattle.algebra.specs.Sequence.{tabulate};
-ghost use Rattle.field.specs.Table.{Powers, Logs};
 ghost use Rattle.code.specs.Shape.{room, point, mates};
 ghost use Rattle.code.specs.Repair.{weights};
 ghost use Rattle.code.specs.Laws.{Placed, Mending};
@@ -25,36 +24,30 @@ pub fn checks_with(shape: Shape, number: u32) -> u32
 }
 
 // The factor of every term at x.
-fn scale_at(shape: Shape, x: u8, powers: &[u8; 255], logs: &[u8; 256]) -> u8
-    requires { Powers 1 powers.now × Logs logs.now × Placed shape }
+fn scale_at(shape: Shape, x: u8) -> u8
+    requires { Placed shape }
     ensures { result ≡ scale shape x }
 {
     if layout::missing_of(shape) == 0 {
         return x;
     }
-    let h = generator_matrix::vanishing_at(shape, x, powers, logs);
-    arithmetic::inverse_of(shape.field, h, powers, logs)
+    let h = generator_matrix::vanishing_at(shape, x);
+    arithmetic::inverse_of(shape.field, h)
 }
 
 // Writes the terms of the first checks at the point of a place.
-fn put_terms(shape: Shape, place: u32, terms: &mut [u8], powers: &[u8; 255], logs: &[u8; 256])
-    requires { Powers 1 powers.now × Logs logs.now × Placed shape × (place < room shape) }
+fn put_terms(shape: Shape, place: u32, terms: &mut [u8])
+    requires { Placed shape × (place < room shape) }
     ensures { terms.new ≡ tabulate (λ l. term shape l (point shape place)) (length terms.old) }
 {
-    let x = layout::point_of(shape, place, powers);
-    let scale = scale_at(shape, x, powers, logs);
-    generator_matrix::fill_run(shape.field, x, scale, terms, powers, logs);
+    let x = layout::point_of(shape, place);
+    let scale = scale_at(shape, x);
+    generator_matrix::fill_run(shape.field, x, scale, terms);
 }
 
 // The terms of the first n checks: those of mate i from 16 i on, the slot's own from 256 on.
-pub fn terms_of(
-    shape: Shape,
-    slot: u32,
-    n: usize,
-    powers: &[u8; 255],
-    logs: &[u8; 256],
-) -> [u8; 272]
-    requires { Powers 1 powers.now × Logs logs.now × Mending shape × (slot < shape.n) × (n ≤ 16) }
+pub fn terms_of(shape: Shape, slot: u32, n: usize) -> [u8; 272]
+    requires { Mending shape × (slot < shape.n) × (n ≤ 16) }
     ensures { Terms shape slot n result }
 {
     let number = layout::mates_number(shape, slot);
@@ -62,9 +55,9 @@ pub fn terms_of(
     for i in 0..number {
         let mate = layout::mate_of(shape, slot, i);
         let start = i as usize * 16;
-        put_terms(shape, mate, &mut terms[start..start + n], powers, logs);
+        put_terms(shape, mate, &mut terms[start..start + n]);
     }
-    put_terms(shape, slot, &mut terms[256..256 + n], powers, logs);
+    put_terms(shape, slot, &mut terms[256..256 + n]);
     terms
 }
 
@@ -75,10 +68,8 @@ pub fn check_weights(
     l: usize,
     factors: &[u8; 16],
     terms: &[u8; 272],
-    powers: &[u8; 255],
-    logs: &[u8; 256],
 ) -> [u8; 16]
-    requires { Powers 1 powers.now × Logs logs.now × Mending shape × (slot < shape.n) × (l < checks shape slot) × (factors.now ≡ sixteen (weights shape slot)) × Terms shape slot (checks shape slot) terms.now }
+    requires { Mending shape × (slot < shape.n) × (l < checks shape slot) × (factors.now ≡ sixteen (weights shape slot)) × Terms shape slot (checks shape slot) terms.now }
     ensures { result ≡ sixteen (check_weights shape slot l) }
 {
     let number = layout::mates_number(shape, slot) as usize;
@@ -87,7 +78,7 @@ pub fn check_weights(
     let mut row = [0u8; 16];
     for i in 0..number {
         let less = arithmetic::sub(field, terms[i * 16 + l], own);
-        row[i] = arithmetic::mul(field, factors[i], less, powers, logs);
+        row[i] = arithmetic::mul(field, factors[i], less);
     }
     row
 }
@@ -97,14 +88,12 @@ pub fn pass_checks(shape: Shape, slot: u32, n: usize, symbols: &[u8]) -> bool
     requires { Mending shape × (slot < shape.n) × (n ≡ checks shape slot) × (length (mates shape slot) ≤ length symbols.now) }
     ensures { result ≡ passes shape slot symbols.now }
 {
-    let powers = tables::power_table();
-    let logs = tables::log_table();
     let number = layout::mates_number(shape, slot) as usize;
     let weights = weights::weights_of(shape, slot);
-    let terms = terms_of(shape, slot, n, &powers, &logs);
+    let terms = terms_of(shape, slot, n);
     for l in 0..n {
-        let row = check_weights(shape, slot, l, &weights, &terms, &powers, &logs);
-        if arithmetic::dot(shape.field, &row, symbols, number, &powers, &logs) != 0 {
+        let row = check_weights(shape, slot, l, &weights, &terms);
+        if arithmetic::dot(shape.field, &row, symbols, number) != 0 {
             return false;
         }
     }

@@ -66,9 +66,7 @@ pub fn local_pass_with(
     ensures { PassSays (number_of asked) shape word.old marks.old (answer_of result) word.new marks.new }
 {
     pass_asked(asked, shape, word, marks)?;
-    let powers = tables::power_table();
-    let logs = tables::log_table();
-    Ok(mending::mend_groups(shape, word, marks, &powers, &logs))
+    Ok(mending::mend_groups(shape, word, marks))
 }
 
 // Repairs each group with exactly one loss in its own slots of the word, and unmarks it; leaves it where no codeword has its kept symbols.

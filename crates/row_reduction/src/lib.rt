@@ -2,57 +2,40 @@
 #![tactic(auto)]
 
 ghost use Rattle.std.specs.Prelude.{◌≡◌, ◌*◌, ◌≤◌, ◌<◌, length};
-ghost use Rattle.field.specs.Table.{Powers, Logs};
 ghost use Rattle.row_reduction.specs.Matrix.{matrix_row, Elements, Reduced};
 
 // Adds to row a the multiple of row b that makes column b of it 0; turn is -1 by row b's own entry there.
-fn clear_entry(
-    field: u32,
-    n: usize,
-    rows: &mut [u8],
-    a: usize,
-    b: usize,
-    turn: u8,
-    powers: &[u8; 255],
-    logs: &[u8; 256],
-)
-    requires { Powers 1 powers.now × Logs logs.now × (n ≤ 16) × (n * 16 ≤ length rows.old) × (a < n) × (b < n) × Elements field rows.old }
+fn clear_entry(field: u32, n: usize, rows: &mut [u8], a: usize, b: usize, turn: u8)
+    requires { (n ≤ 16) × (n * 16 ≤ length rows.old) × (a < n) × (b < n) × Elements field rows.old }
     ensures { Reduced field n rows.old rows.new }
 {
     let own = a == b;
     if own {
         return;
     }
-    let c = arithmetic::mul(field, rows[a * 16 + b], turn, powers, logs);
+    let c = arithmetic::mul(field, rows[a * 16 + b], turn);
     linear::add_row(field, rows, a * 16, b * 16, 16, c);
 }
 
 // Makes column b of the rows 0 but for row b's, where that is not 0.
-fn clear_column(
-    field: u32,
-    n: usize,
-    rows: &mut [u8],
-    b: usize,
-    powers: &[u8; 255],
-    logs: &[u8; 256],
-)
-    requires { Powers 1 powers.now × Logs logs.now × (n ≤ 16) × (n * 16 ≤ length rows.old) × (b < n) × Elements field rows.old }
+fn clear_column(field: u32, n: usize, rows: &mut [u8], b: usize)
+    requires { (n ≤ 16) × (n * 16 ≤ length rows.old) × (b < n) × Elements field rows.old }
     ensures { Reduced field n rows.old rows.new }
 {
-    let inverse = arithmetic::inverse_of(field, rows[b * 16 + b], powers, logs);
+    let inverse = arithmetic::inverse_of(field, rows[b * 16 + b]);
     let turn = arithmetic::sub(field, 0, inverse);
     for a in 0..n {
-        clear_entry(field, n, rows, a, b, turn, powers, logs);
+        clear_entry(field, n, rows, a, b, turn);
     }
 }
 
 // Reduces the first n rows, column by column.
-pub fn reduce(field: u32, n: usize, rows: &mut [u8], powers: &[u8; 255], logs: &[u8; 256])
-    requires { Powers 1 powers.now × Logs logs.now × (n ≤ 16) × (n * 16 ≤ length rows.old) × Elements field rows.old }
+pub fn reduce(field: u32, n: usize, rows: &mut [u8])
+    requires { (n ≤ 16) × (n * 16 ≤ length rows.old) × Elements field rows.old }
     ensures { Reduced field n rows.old rows.new }
 {
     for b in 0..n {
-        clear_column(field, n, rows, b, powers, logs);
+        clear_column(field, n, rows, b);
     }
 }
 

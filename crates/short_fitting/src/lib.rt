@@ -4,7 +4,6 @@
 
 ghost use Rattle.std.specs.Prelude.{◌≡◌, false, ℕ, ◌+◌, ◌≤◌, length};
 ghost use Rattle.algebra.specs.Sequence.{at};
-ghost use Rattle.field.specs.Table.{Powers, Logs};
 ghost use Rattle.code.specs.Shape.{room, missing, whole};
 ghost use Rattle.code.specs.Codeword.{guarantee};
 ghost use Rattle.code.specs.Erasure.{lost_number};
@@ -24,31 +23,22 @@ fn solve_long(
     marks: &[u8],
     row: &mut [u8],
     message: &mut [u8],
-    powers: &[u8; 255],
-    logs: &[u8; 256],
 ) -> Result<(), Refusal>
     requires { Decodable shape × (whole shape ≡ false) × Received (mother shape) word.now marks.now
         × ((p : ℕ) → shape.n ≤ p → (at word.now p ≡ 0) × (at marks.now p ≡ 0))
         × (length row.old ≡ shape.k + missing shape) × (length message.old ≡ shape.k)
-        × (lost_number (mother shape) marks.now ≤ guarantee shape) × Powers 1 powers.now × Logs logs.now }
+        × (lost_number (mother shape) marks.now ≤ guarantee shape) }
     ensures { Verdict shape word.now marks.now message.old message.new (number_of result) }
 {
     let mother = shortening::mother_of(shape);
-    fitting::solve_within(mother, word, marks, row, powers, logs)?;
-    shortening::shorten(shape, row, message, powers, logs);
+    fitting::solve_within(mother, word, marks, row)?;
+    shortening::shorten(shape, row, message);
     Ok(())
 }
 
 // The kept symbols and the marks with zeros behind them, for the missing places.
-fn solve_short(
-    shape: Shape,
-    word: &[u8],
-    marks: &[u8],
-    message: &mut [u8],
-    powers: &[u8; 255],
-    logs: &[u8; 256],
-) -> Result<(), Refusal>
-    requires { Decodable shape × (whole shape ≡ false) × Received shape word.now marks.now × (length message.old ≡ shape.k) × (lost_number shape marks.now ≤ guarantee shape) × Powers 1 powers.now × Logs logs.now }
+fn solve_short(shape: Shape, word: &[u8], marks: &[u8], message: &mut [u8]) -> Result<(), Refusal>
+    requires { Decodable shape × (whole shape ≡ false) × Received shape word.now marks.now × (length message.old ≡ shape.k) × (lost_number shape marks.now ≤ guarantee shape) }
     ensures { Verdict shape word.now marks.now message.old message.new (number_of result) }
 {
     let places = layout::room_of(shape) as usize;
@@ -64,8 +54,6 @@ fn solve_short(
         &left[..places],
         &mut room[..number],
         message,
-        powers,
-        logs,
     )
 }
 
@@ -75,15 +63,13 @@ pub fn solve_within(
     word: &[u8],
     marks: &[u8],
     message: &mut [u8],
-    powers: &[u8; 255],
-    logs: &[u8; 256],
 ) -> Result<(), Refusal>
-    requires { Decodable shape × Received shape word.now marks.now × (length message.old ≡ shape.k) × (lost_number shape marks.now ≤ guarantee shape) × Powers 1 powers.now × Logs logs.now }
+    requires { Decodable shape × Received shape word.now marks.now × (length message.old ≡ shape.k) × (lost_number shape marks.now ≤ guarantee shape) }
     ensures { Verdict shape word.now marks.now message.old message.new (number_of result) }
 {
     let short = layout::missing_of(shape) != 0;
     if short {
-        return solve_short(shape, word, marks, message, powers, logs);
+        return solve_short(shape, word, marks, message);
     }
-    fitting::solve_within(shape, word, marks, message, powers, logs)
+    fitting::solve_within(shape, word, marks, message)
 }

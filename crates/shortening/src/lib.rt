@@ -6,7 +6,6 @@ ghost use Rattle.algebra.specs.Sequence.{at, all_below};
 ghost use Rattle.algebra.specs.Writing.{Written};
 ghost use Rattle.field.specs.Field.{q, plus, times};
 ghost use Rattle.field.specs.Polynomial.{poly};
-ghost use Rattle.field.specs.Table.{Powers, Logs};
 ghost use Rattle.code.specs.Shape.{room, whole, point};
 ghost use Rattle.code.specs.Codeword.{is_message, symbol};
 ghost use Rattle.code.specs.Laws.{Placed, Plain};
@@ -54,21 +53,21 @@ fn move_base(shape: Shape, row: &mut [u8], c: u8)
 }
 
 // The polynomial divided by X - y: Horner's rule, of which every sum is kept.
-fn div_root(field: u32, coefs: &mut [u8; 16], y: u8, powers: &[u8; 255], logs: &[u8; 256])
-    requires { Powers 1 powers.now × Logs logs.now × (length coefs.old ≡ 16) }
+fn div_root(field: u32, coefs: &mut [u8; 16], y: u8)
+    requires { (length coefs.old ≡ 16) }
     ensures { Divided field y coefs.old coefs.new }
 {
     let mut value: u8 = 0;
     for i in (0..16).rev() {
         let own = coefs[i];
         coefs[i] = value;
-        value = arithmetic::mul_add(field, own, y, value, powers, logs);
+        value = arithmetic::mul_add(field, own, y, value);
     }
 }
 
 // The first block of the row divided by h.
-fn last_symbols(shape: Shape, row: &[u8], powers: &[u8; 255], logs: &[u8; 256]) -> [u8; 16]
-    requires { Powers 1 powers.now × Logs logs.now × Placed shape × (shape.r ≤ length row.now) × (all_below (q shape.field) row.now ≡ true)
+fn last_symbols(shape: Shape, row: &[u8]) -> [u8; 16]
+    requires { Placed shape × (shape.r ≤ length row.now) × (all_below (q shape.field) row.now ≡ true)
         × ((p : ℕ) → shape.n ≤ p → p < room shape → poly shape.field (take shape.r row.now) (point shape p) ≡ 0) }
     ensures { LastSymbols shape (take shape.r row.now) result }
 {
@@ -77,28 +76,22 @@ fn last_symbols(shape: Shape, row: &[u8], powers: &[u8; 255], logs: &[u8; 256]) 
     let mut coefs = [0u8; 16];
     copying::copy(row, 0, r, &mut coefs, 0);
     for i in (0..layout::missing_of(shape)).rev() {
-        let y = layout::point_of(shape, shape.n + i, powers);
-        div_root(field, &mut coefs, y, powers, logs);
+        let y = layout::point_of(shape, shape.n + i);
+        div_root(field, &mut coefs, y);
     }
     coefs
 }
 
 // The message of a code with a short last group, from the row that is the message of the code of whole groups: the row is worked in.
-pub fn shorten(
-    shape: Shape,
-    row: &mut [u8],
-    message: &mut [u8],
-    powers: &[u8; 255],
-    logs: &[u8; 256],
-)
-    requires { Powers 1 powers.now × Logs logs.now × Plain shape × (whole shape ≡ false) × (is_message (mother shape) row.old ≡ true)
+pub fn shorten(shape: Shape, row: &mut [u8], message: &mut [u8])
+    requires { Plain shape × (whole shape ≡ false) × (is_message (mother shape) row.old ≡ true)
         × ((p : ℕ) → shape.n ≤ p → p < room shape → symbol (mother shape) row.old p ≡ 0) × (length message.old ≡ shape.k) }
     ensures { Shortens shape row.old message.new }
 {
     let r = shape.r as usize;
-    let c = layout::constant_of(shape, powers);
+    let c = layout::constant_of(shape);
     move_base(shape, row, c);
-    let last = last_symbols(shape, row, powers, logs);
+    let last = last_symbols(shape, row);
     let lead = row.len() - r;
     let rest = message.len() - lead;
     copying::copy(row, r, lead, message, 0);

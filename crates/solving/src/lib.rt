@@ -2,7 +2,6 @@
 #![tactic(auto)]
 
 ghost use Rattle.std.specs.Prelude.{◌≡◌, length, replicate};
-ghost use Rattle.field.specs.Table.{Powers, Logs};
 ghost use Rattle.code.specs.Laws.{Decodable};
 ghost use Rattle.code.specs.Verdict.{Verdict};
 ghost use Rattle.code.specs.Step.{Received};
@@ -19,10 +18,8 @@ pub fn solve_sure(
     word: &[u8],
     marks: &[u8],
     message: &mut [u8],
-    powers: &[u8; 255],
-    logs: &[u8; 256],
 ) -> Option<Result<(), Refusal>>
-    requires { Decodable shape × Received shape word.now marks.now × (length message.old ≡ shape.k) × Powers 1 powers.now × Logs logs.now }
+    requires { Decodable shape × Received shape word.now marks.now × (length message.old ≡ shape.k) }
     ensures { Tried shape word.now marks.now message.old message.new result }
 {
     let lost = losses::count_lost(shape, marks);
@@ -31,7 +28,7 @@ pub fn solve_sure(
     if beyond {
         return None;
     }
-    Some(short_fitting::solve_within(shape, word, marks, message, powers, logs))
+    Some(short_fitting::solve_within(shape, word, marks, message))
 }
 
 // Local repair of a copy, which the last two lent buffers are room for, then interpolation of it; None, and nothing written to the message,
@@ -41,16 +38,14 @@ fn solve_mended(
     word: &[u8],
     marks: &[u8],
     message: &mut [u8],
-    powers: &[u8; 255],
-    logs: &[u8; 256],
     copy: &mut [u8],
     left: &mut [u8],
 ) -> Option<Result<(), Refusal>>
-    requires { Decodable shape × Received shape word.now marks.now × (length message.old ≡ shape.k) × Powers 1 powers.now × Logs logs.now × (length copy.old ≡ shape.n) × (length left.old ≡ shape.n) }
+    requires { Decodable shape × Received shape word.now marks.now × (length message.old ≡ shape.k) × (length copy.old ≡ shape.n) × (length left.old ≡ shape.n) }
     ensures { Tried shape word.now marks.now message.old message.new result }
 {
-    copy_mending::mend_copy(shape, word, marks, copy, left, powers, logs);
-    solve_sure(shape, copy, left, message, powers, logs)
+    copy_mending::mend_copy(shape, word, marks, copy, left);
+    solve_sure(shape, copy, left, message)
 }
 
 // Local repair of a copy where that brings the losses within the guarantee, elimination else. All of work is left 0.
@@ -60,31 +55,20 @@ fn solve_broken(
     marks: &[u8],
     message: &mut [u8],
     work: &mut [u8],
-    powers: &[u8; 255],
-    logs: &[u8; 256],
 ) -> Result<(), Refusal>
-    requires { Decodable shape × Task shape word.now marks.now message.old work.old × Powers 1 powers.now × Logs logs.now }
+    requires { Decodable shape × Task shape word.now marks.now message.old work.old }
     ensures { Verdict shape word.now marks.now message.old message.new (number_of result) × (work.new ≡ replicate (length work.old) 0) }
 {
     let n = shape.n as usize;
     let mut copy = [0u8; 255];
     let mut left = [0u8; 255];
-    let verdict = solve_mended(
-        shape,
-        word,
-        marks,
-        message,
-        powers,
-        logs,
-        &mut copy[..n],
-        &mut left[..n],
-    );
+    let verdict = solve_mended(shape, word, marks, message, &mut copy[..n], &mut left[..n]);
     match verdict {
         Some(decided) => {
             work.fill(0);
             decided
         }
-        None => elimination::solve_beyond(shape, word, marks, message, work, powers, logs),
+        None => elimination::solve_beyond(shape, word, marks, message, work),
     }
 }
 
@@ -99,13 +83,11 @@ pub fn solve(
     requires { Decodable shape × Task shape word.now marks.now message.old work.old }
     ensures { Verdict shape word.now marks.now message.old message.new (number_of result) × (work.new ≡ replicate (length work.old) 0) }
 {
-    let powers = tables::power_table();
-    let logs = tables::log_table();
-    match solve_sure(shape, word, marks, message, &powers, &logs) {
+    match solve_sure(shape, word, marks, message) {
         Some(decided) => {
             work.fill(0);
             decided
         }
-        None => solve_broken(shape, word, marks, message, work, &powers, &logs),
+        None => solve_broken(shape, word, marks, message, work),
     }
 }

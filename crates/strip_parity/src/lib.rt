@@ -5,7 +5,6 @@ ghost use Rattle.std.specs.Prelude.{◌≡◌, true, ◌*◌, ◌≤◌, ◌<◌
 ghost use Rattle.algebra.specs.Sequence.{all_below, every};
 ghost use Rattle.field.specs.Field.{q};
 ghost use Rattle.field.specs.Polynomial.{weighed};
-ghost use Rattle.field.specs.Table.{Powers, Logs};
 ghost use Rattle.code.specs.Shape.{mates};
 ghost use Rattle.code.specs.Held.{columns_held};
 ghost use Rattle.code.specs.Laws.{Mending, Decodable};
@@ -25,27 +24,27 @@ fn sums_zero(field: u32, weights: &[u8; 16], r: usize, strips: &[u8], sums: &mut
 }
 
 // The weights of the first n checks, those of check c from 16 c on.
-fn check_rows(shape: Shape, slot: u32, n: usize, powers: &[u8; 255], logs: &[u8; 256]) -> [u8; 256]
-    requires { Powers 1 powers.now × Logs logs.now × Mending shape × (slot < shape.n) × (n ≡ checks shape slot) }
+fn check_rows(shape: Shape, slot: u32, n: usize) -> [u8; 256]
+    requires { Mending shape × (slot < shape.n) × (n ≡ checks shape slot) }
     ensures { CheckRows shape slot n result }
 {
     let weights = weights::weights_of(shape, slot);
-    let terms = parity::terms_of(shape, slot, n, powers, logs);
+    let terms = parity::terms_of(shape, slot, n);
     let mut rows = [0u8; 256];
     for c in 0..n {
-        let row = parity::check_weights(shape, slot, c, &weights, &terms, powers, logs);
+        let row = parity::check_weights(shape, slot, c, &weights, &terms);
         rows[c * 16..c * 16 + 16].copy_from_slice(&row);
     }
     rows
 }
 
 // Reduces the rows for strips so long that it pays.
-fn reduce_for(field: u32, n: usize, l: usize, rows: &mut [u8], powers: &[u8; 255], logs: &[u8; 256])
-    requires { Powers 1 powers.now × Logs logs.now × (n ≤ 16) × (n * 16 ≤ length rows.old) × Elements field rows.old }
+fn reduce_for(field: u32, n: usize, l: usize, rows: &mut [u8])
+    requires { (n ≤ 16) × (n * 16 ≤ length rows.old) × Elements field rows.old }
     ensures { Reduced field n rows.old rows.new }
 {
     if l >= 512 {
-        row_reduction::reduce(field, n, rows, powers, logs);
+        row_reduction::reduce(field, n, rows);
     }
 }
 
@@ -68,11 +67,9 @@ fn columns_pass(shape: Shape, slot: u32, n: usize, strips: &[u8], sums: &mut [u8
     requires { Mending shape × (slot < shape.n) × (n ≡ checks shape slot) × (length sums.old ≤ 4096) × (length strips.now ≡ length (mates shape slot) * length sums.old) × (all_below (q shape.field) strips.now ≡ true) }
     ensures { result ≡ columns_pass shape slot (length sums.old) strips.now }
 {
-    let powers = tables::power_table();
-    let logs = tables::log_table();
     let number = layout::mates_number(shape, slot) as usize;
-    let mut rows = check_rows(shape, slot, n, &powers, &logs);
-    reduce_for(shape.field, n, sums.len(), &mut rows, &powers, &logs);
+    let mut rows = check_rows(shape, slot, n);
+    reduce_for(shape.field, n, sums.len(), &mut rows);
     annulled(shape.field, n, &rows, number, strips, sums)
 }
 

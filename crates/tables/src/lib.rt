@@ -1,7 +1,7 @@
 // The order of a field, and its tables: powers of 2 in both fields, logarithms over bytes.
 #![tactic(auto)]
 
-ghost use Rattle.std.specs.Prelude.{◌≡◌, ◌-◌, ◌≤◌, ◌<◌};
+ghost use Rattle.std.specs.Prelude.{◌≡◌, ◌≢◌, ◌-◌, ◌≤◌, ◌<◌};
 ghost use Rattle.field.specs.Field.{q, γ, power};
 ghost use Rattle.field.specs.Table.{Powers, Logs};
 
@@ -22,37 +22,40 @@ pub fn order(field: u32) -> u32
 }
 
 // The table of powers modulo 13.
-fn power_table_13() -> [u8; 12]
-    ensures { Powers 0 result }
+fn power_table_13() -> &'static [u8; 12]
+    ensures { Powers 0 result.now }
 {
-    POWERS_13
+    &POWERS_13
 }
 
-// The table of powers over bytes, to be lent to the operations of one call.
-pub fn power_table() -> [u8; 255]
-    ensures { Powers 1 result }
+// The table of powers over bytes.
+pub fn power_table() -> &'static [u8; 255]
+    ensures { Powers 1 result.now }
 {
-    POWERS_256
+    &POWERS_256
 }
 
-// The table of logarithms, to be lent likewise.
-pub fn log_table() -> [u8; 256]
-    ensures { Logs result }
+// The table of logarithms.
+pub fn log_table() -> &'static [u8; 256]
+    ensures { Logs result.now }
 {
-    LOGS_256
+    &LOGS_256
 }
 
-// The power e of 2, where the table over bytes is lent: for loops, which take it once.
-pub fn power_at(field: u32, e: u32, powers: &[u8; 255]) -> u8
-    requires { Powers 1 powers.now × (e < q field - 1) }
-    ensures { result ≡ power field γ e }
+// The power e of 2 over bytes.
+pub fn byte_power(e: usize) -> u8
+    requires { e < 255 }
+    ensures { result ≡ power 1 γ e }
 {
-    let i = e as usize;
-    if field == 0 {
-        let t = power_table_13();
-        return t[i];
-    }
-    powers[i]
+    power_table()[e]
+}
+
+// The logarithm of a byte: the power of 2 that it is, and 0 for the byte 0.
+pub fn logarithm(a: u8) -> usize
+    ensures below { result < 255 }
+    ensures entry { a ≢ 0 → power 1 γ result ≡ a }
+{
+    log_table()[a as usize] as usize
 }
 
 // The power e of 2.
@@ -60,6 +63,8 @@ pub fn generator_power(field: u32, e: u32) -> u8
     requires { e < q field - 1 }
     ensures { result ≡ power field γ e }
 {
-    let powers = power_table();
-    power_at(field, e, &powers)
+    if field == 0 {
+        return power_table_13()[e as usize];
+    }
+    byte_power(e as usize)
 }

@@ -3,38 +3,29 @@
 
 ghost use Rattle.std.specs.Prelude.{◌≡◌, ◌⊎◌, List, ℕ, ◌+◌, ◌*◌, ◌≤◌, ◌<◌, length};
 ghost use Rattle.algebra.specs.Sequence.{at};
-ghost use Rattle.field.specs.Table.{Powers, Logs};
 ghost use Rattle.lanes.specs.Lane.{shown};
 ghost use Rattle.tile_evaluation.specs.Step.{weight, Nibbles, PlanAt, PowersPlanned, TablesAt, ValueWritten};
 
 // The first n powers of x, then zeros.
-fn power_weights(x: u8, n: usize, powers: &[u8; 255], logs: &[u8; 256]) -> [u8; 16]
-    requires { Powers 1 powers.now × Logs logs.now × (n ≤ 16) }
+fn power_weights(x: u8, n: usize) -> [u8; 16]
+    requires { (n ≤ 16) }
     ensures { (e : ℕ) → e < 16 → at result e ≡ weight x n e }
 {
     let mut weights = [0u8; 16];
     let mut power: u8 = 1;
     for e in 0..n {
         weights[e] = power;
-        power = arithmetic::mul(1, x, power, powers, logs);
+        power = arithmetic::mul(1, x, power);
     }
     weights
 }
 
 // Plans the values at x of polynomials with n coefficients, from place m on: 8 g entries.
-pub fn plan_powers(
-    x: u8,
-    n: usize,
-    g: usize,
-    plan: &mut [u8],
-    m: usize,
-    powers: &[u8; 255],
-    logs: &[u8; 256],
-)
-    requires { Powers 1 powers.now × Logs logs.now × (1 ≤ g) × (g ≤ 4) × (n ≤ g * 4) × (m + g * 8 ≤ length plan.old) }
+pub fn plan_powers(x: u8, n: usize, g: usize, plan: &mut [u8], m: usize)
+    requires { (1 ≤ g) × (g ≤ 4) × (n ≤ g * 4) × (m + g * 8 ≤ length plan.old) }
     ensures { PowersPlanned x n g m plan.old plan.new }
 {
-    let weights = power_weights(x, n, powers, logs);
+    let weights = power_weights(x, n);
     for h in 0..g {
         plane_sums::plan_quad(&weights, h * 4, plan, m + h, g);
     }

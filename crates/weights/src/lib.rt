@@ -18,7 +18,6 @@ pub fn weights_of(shape: Shape, slot: u32) -> [u8; 16]
     requires { Mending shape × (slot < shape.n) }
     ensures { result ≡ sixteen (weights shape slot) }
 {
-    let powers = tables::power_table();
     let field = shape.field;
     let size = layout::size_of(shape);
     let group = layout::group_of(shape, slot);
@@ -28,7 +27,7 @@ pub fn weights_of(shape: Shape, slot: u32) -> [u8; 16]
     let mut weights = [0u8; 16];
     for i in 0..members - 1 {
         let steps = layout::mate_steps(size, member, i);
-        let y = layout::member_point(field, width, 0, steps, &powers);
+        let y = layout::member_point(field, width, 0, steps);
         weights[i as usize] = arithmetic::sub(field, 0, y);
     }
     weights

@@ -14,8 +14,6 @@ insert-requires c =
       filled_echelon a.field a.t a.work.now d.new.target G.echelon d.ensures.size,
       filled_below a.field a.t (a.j * a.size + a.r) a.row.now c.requires.2 a.work.now d.new.target G.echelon d.ensures,
       zero_below a.field,
-      c.requires.4,
-      c.requires.5,
     )
 
 pub returns : goal.returns

@@ -12,7 +12,7 @@ pub loop-p-preserved : goal.loop-p-preserved
 loop-p-preserved c =
     let l = c.loop-p in
     writing_more c.loop-p-test.true c.requires.1
-    (c.add-v.ensures ∙ ap₂ (plus c.args.field) (l.invariant.done.behind l.p (omega arith)) c.product-s.ensures) l.invariant
+    (c.add.ensures ∙ ap₂ (plus c.args.field) (l.invariant.done.behind l.p (omega arith)) c.product-s.ensures) l.invariant
 
 pub shape_of-target : goal.shape_of-target
 shape_of-target c = c.loop-p.invariant.done.size

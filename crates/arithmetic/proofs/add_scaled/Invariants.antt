@@ -6,6 +6,3 @@ use Rattle.arithmetic.proofs.add_scaled.Given as goal
 
 abbrev pub invariant-loop-p : goal.invariant-loop-p
 invariant-loop-p l = Writing (λ i. plus l.field (at l.initial.target i) (times l.field l.c (at l.source i))) l.from l.to l.p l.initial.target l.target
-
-abbrev pub decreases-loop-p : goal.decreases-loop-p
-decreases-loop-p l = l.to - l.p

@@ -11,24 +11,12 @@ use Rattle.arithmetic.proofs.dot.Goals as goal
 pub loop-i-init : goal.loop-i-init
 loop-i-init c =
     let a = c.args in
-    (omega arith, dotted_none a.field a.a.now a.b.now)
-
-pub mul_add-sum-requires : goal.mul_add-sum-requires
-mul_add-sum-requires c = (c.requires.0, c.requires.1)
+    dotted_none a.field a.a.now a.b.now
 
 pub loop-i-preserved : goal.loop-i-preserved
 loop-i-preserved c =
     let l = c.loop-i in
-    let a = c.args in (
-      omega arith,
-      c.mul_add-sum.ensures
-          ∙ ap (λ x. plus a.field x (times a.field (at a.a.now l.i) (at a.b.now l.i))) l.invariant.1
-          ∙ dotted_last a.field l.i a.a.now a.b.now (omega arith) (omega arith),
-    )
-
-pub returns : goal.returns
-returns c =
     let a = c.args in
-    let l = c.loop-i in
-    let e : l.i ≡ a.n = omega arith in
-    l.invariant.1 ∙ ap (λ i. dotted a.field (take i a.a.now) (take i a.b.now)) e
+    c.mul_add-sum.ensures
+    ∙ ap (λ x. plus a.field x (times a.field (at a.a.now l.i) (at a.b.now l.i))) l.invariant
+    ∙ dotted_last a.field l.i a.a.now a.b.now (omega arith) (omega arith)

@@ -5,7 +5,4 @@ use Rattle.field.specs.Polynomial.{dotted}
 use Rattle.arithmetic.proofs.dot.Given as goal
 
 abbrev pub invariant-loop-i : goal.invariant-loop-i
-invariant-loop-i l = (l.i ≤ l.n) × (l.sum ≡ dotted l.field (take l.i l.a) (take l.i l.b))
-
-abbrev pub decreases-loop-i : goal.decreases-loop-i
-decreases-loop-i l = l.n - l.i
+invariant-loop-i l = l.sum ≡ dotted l.field (take l.i l.a) (take l.i l.b)

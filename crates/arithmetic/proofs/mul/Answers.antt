@@ -17,21 +17,11 @@ returns-then-a-eq0 c = let a = c.args in times_nil_left a.field a.a a.b c.if-fie
 pub returns-then-b-eq0 : goal.returns-then-b-eq0
 returns-then-b-eq0 c = let a = c.args in times_nil_right a.field a.a a.b c.if-field-eq0.false (omega arith) c.if-b-eq0.true
 
-pub overflow_cast-i-2 : goal.overflow_cast-i-2
-overflow_cast-i-2 c = omega (arith, c.requires.1.below c.args.a (omega arith))
-
-pub overflow_cast-j-2 : goal.overflow_cast-j-2
-overflow_cast-j-2 c = omega (arith, c.requires.1.below c.args.b (omega arith))
-
-pub overflow_add-result : goal.overflow_add-result
-overflow_add-result c =
-    omega (arith, c.requires.1.below c.args.a (omega arith), c.requires.1.below c.args.b (omega arith))
-
 pub returns : goal.returns
 returns c =
     let a = c.args in
-    let i = at a.logs.now a.a in
-    let j = at a.logs.now a.b in
-    c.requires.0.entry ((i + j) % 255) (reduced_below (i + j))
+    let i = c.logarithm-i.result in
+    let j = c.logarithm-j.result in
+    c.byte_power.ensures
     ∙ times_logs a.field a.a a.b i j c.if-field-eq0.false
-    (c.requires.1.entry a.a (omega arith) c.if-a-eq0.false) (c.requires.1.entry a.b (omega arith) c.if-b-eq0.false)
+    (c.logarithm-i.ensures.entry c.if-a-eq0.false) (c.logarithm-j.ensures.entry c.if-b-eq0.false)

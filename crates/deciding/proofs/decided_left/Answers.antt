@@ -19,8 +19,6 @@ slice_bounds-mend_groups-end c =
 pub mend_groups-requires : goal.mend_groups-requires
 mend_groups-requires c =
     let P = c.requires.0.plain.family.placed in (
-      c.requires.3,
-      c.requires.4,
       c.requires.0,
       front_size c.args.shape.n (omega (arith, n_most c.args.shape P)),
       c.requires.1,

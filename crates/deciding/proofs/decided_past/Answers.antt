@@ -34,7 +34,7 @@ only_zero-requires c =
     let a = c.args in
     let m = c.mother_of-mother in
     let q = asked a.shape m.result c.requires.0 m.ensures a.marks.now _ (over (goal.at.only_zero-requires c).After-copy_from_slice) c.requires.2 _ c.requires.3 in
-    (q.0, q.1, q.2, q.3, q.4, c.requires.4, c.requires.5)
+    (q.0, q.1, q.2, q.3, q.4)
 
 pub returns : goal.returns
 returns c =

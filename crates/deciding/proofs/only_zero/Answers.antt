@@ -27,8 +27,6 @@ only_zero-requires c =
       kept_fewer a.shape L g.result g.ensures a.marks.now c.requires.3,
       inside,
       c.requires.4,
-      c.requires.5,
-      c.requires.6,
     )
 
 pub returns : goal.returns

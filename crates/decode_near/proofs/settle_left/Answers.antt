@@ -9,8 +9,6 @@ pub solve_beyond-requires : goal.solve_beyond-requires
 solve_beyond-requires c = (
   c.requires.0.plain,
   record { received = c.requires.1.received; message = c.solve_sure.auto.message ∙ c.requires.1.message; work = c.requires.1.work },
-  c.requires.2,
-  c.requires.3,
 )
 
 pub returns-in-None : goal.returns-in-None

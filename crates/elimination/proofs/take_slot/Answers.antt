@@ -11,8 +11,6 @@ insert-requires c =
       filled_echelon a.shape.field a.shape.k a.work.now d.new.row c.requires.3 d.ensures.size,
       filled_below a.shape a.p c.requires.0.family a.work.now d.new.row c.requires.3 d.ensures,
       kept_symbol a.shape a.word.now a.marks.now c.requires.2.kept a.p c.requires.1 c.if-lost.false,
-      c.requires.4,
-      c.requires.5,
     )
 
 pub returns : goal.returns

@@ -14,8 +14,6 @@ write_message-requires c =
     let l = c.loop-c in
     let s = c.args.shape in
     let e = c.take_column.ensures ∙ ap (λ n. column n c.args.l l.c c.args.messages.now) (l.auto.message ∙ c.requires.5) in (
-      c.power_table-powers.ensures,
-      c.log_table-logs.ensures,
       c.requires.0,
       ap (is_message s) e ∙ column_message s c.args.l l.c c.args.messages.now c.loop-c-test.true c.requires.3 c.requires.4,
       l.auto.codeword ∙ c.requires.6,

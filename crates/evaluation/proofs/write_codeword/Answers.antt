@@ -8,4 +8,4 @@ pub returns : goal.returns
 returns c =
     let l = c.loop-group in
     let z : l.group ≡ groups c.args.shape = omega (arith, c.groups_of-group-end.ensures) in
-    groups_all c.args.shape c.args.c c.args.row.now c.requires.2 l.group l.codeword z l.invariant
+    groups_all c.args.shape c.args.c c.args.row.now c.requires.0 l.group l.codeword z l.invariant

@@ -11,11 +11,11 @@ inside : (c : In-loop-i)
 inside c =
     let f = c.first_of-first in
     let t = c.step_of-step in
-    slot_room c.args.shape c.requires.2 c.args.group c.requires.3 f.result t.result f.ensures t.ensures c.loop-i.i
+    slot_room c.args.shape c.requires.0 c.args.group c.requires.1 f.result t.result f.ensures t.ensures c.loop-i.i
     (omega (arith, c.members_of-members.ensures.0))
 
 pub bounds-codeword-first : goal.bounds-codeword-first
-bounds-codeword-first c = omega (arith, inside (goal.at.bounds-codeword-first c).In-loop-i, c.requires.4, c.loop-i.invariant.size)
+bounds-codeword-first c = omega (arith, inside (goal.at.bounds-codeword-first c).In-loop-i, c.requires.2, c.loop-i.invariant.size)
 
 pub loop-i-preserved : goal.loop-i-preserved
 loop-i-preserved c =
@@ -24,8 +24,8 @@ loop-i-preserved c =
     let t = c.step_of-step in
     let l = c.loop-i in
     scattered_more (λ m. f.result + m * t.result) c.group_symbols-symbols.result l.i a.codeword.now l.codeword
-    (omega (arith, inside (goal.at.loop-i-preserved c).In-loop-i, c.requires.4, l.invariant.size))
-    (λ i h. slots_apart a.shape c.requires.2 a.group c.requires.3 f.result t.result f.ensures t.ensures i l.i h) l.invariant
+    (omega (arith, inside (goal.at.loop-i-preserved c).In-loop-i, c.requires.2, l.invariant.size))
+    (λ i h. slots_apart a.shape c.requires.0 a.group c.requires.1 f.result t.result f.ensures t.ensures i l.i h) l.invariant
 
 pub returns : goal.returns
 returns c =
@@ -34,5 +34,5 @@ returns c =
     let t = c.step_of-step in
     let v = c.group_symbols-symbols in
     let l = c.loop-i in
-    group_scattered a.shape c.requires.2 a.group c.requires.3 f.result t.result f.ensures t.ensures a.c a.row.now v.result l.i
+    group_scattered a.shape c.requires.0 a.group c.requires.1 f.result t.result f.ensures t.ensures a.c a.row.now v.result l.i
     a.codeword.now l.codeword (omega (arith, c.members_of-members.ensures.0)) v.ensures l.invariant

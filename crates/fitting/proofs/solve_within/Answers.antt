@@ -29,8 +29,6 @@ interpolate-interpolated-requires c =
       points_differ a.shape c.requires.0 t.new.points W,
       kept_symbol a.shape a.word.now a.marks.now R.kept,
       within a.shape c.requires.0 a.marks.now g.result g.ensures c.requires.4,
-      c.requires.5,
-      c.requires.6,
     )
 
 pub returns-in_err-require : goal.returns-in_err-require

@@ -20,23 +20,21 @@ use Rattle.generator_matrix.proofs.fill_row.Goals as goal
 use Rattle.generator_matrix.proofs.fill_row.Goals.{Start}
 
 inside : (c : Start) → c.args.slot < room c.args.shape
-inside c = slot_room c.args.shape c.requires.2.family.placed c.args.slot c.requires.3
+inside c = slot_room c.args.shape c.requires.0.family.placed c.args.slot c.requires.1
 
 pub point_of-x-requires : goal.point_of-x-requires
 point_of-x-requires c =
-    (c.requires.0, c.requires.2.family.placed, inside (goal.at.point_of-x-requires c).Start)
+    (c.requires.0.family.placed, inside (goal.at.point_of-x-requires c).Start)
 
 pub group_of-requires : goal.group_of-requires
-group_of-requires c = (c.requires.2.family.placed, inside (goal.at.group_of-requires c).Start)
+group_of-requires c = (c.requires.0.family.placed, inside (goal.at.group_of-requires c).Start)
 
 pub fill_blocks-requires : goal.fill_blocks-requires
 fill_blocks-requires c =
     let f = c.args.shape.field in (
-      c.requires.0,
-      c.requires.1,
       rw c.point_of-x.ensures (point_below c.args.shape c.args.slot),
       rw c.group_power-power.ensures (power_below f γ _ (gamma_below f)),
-      c.requires.2.family.placed.r_least,
+      c.requires.0.family.placed.r_least,
     )
 
 pub returns-then-missing-eq0 : goal.returns-then-missing-eq0
@@ -48,38 +46,34 @@ returns-then-missing-eq0 c =
     let y = c.group_power-power in
     let t = c.missing_of-missing in
     let xs = c.fill_blocks.new.row in
-    row_whole h c.requires.2 a.slot x.result j.result y.result t.result c.requires.3 x.ensures j.ensures.0 y.ensures t.ensures a.row.now (xs ++ drop h.k a.row.now)
-    c.if-missing-eq0.true (written_front (blocks h.field x.result y.result 0 h.r) h.k a.row.now xs c.requires.4 c.fill_blocks.ensures)
+    row_whole h c.requires.0 a.slot x.result j.result y.result t.result c.requires.1 x.ensures j.ensures.0 y.ensures t.ensures a.row.now (xs ++ drop h.k a.row.now)
+    c.if-missing-eq0.true (written_front (blocks h.field x.result y.result 0 h.r) h.k a.row.now xs c.requires.2 c.fill_blocks.ensures)
 
 pub overflow_sub-lead : goal.overflow_sub-lead
 overflow_sub-lead c =
     let t = c.missing_of-missing in
-    (lead_worked c.args.shape c.requires.2 t.result t.ensures c.if-missing-eq0.false).0
+    (lead_worked c.args.shape c.requires.0 t.result t.ensures c.if-missing-eq0.false).0
 
 pub fill_blocks-requires-2 : goal.fill_blocks-requires-2
 fill_blocks-requires-2 c =
     let f = c.args.shape.field in
     let t = c.missing_of-missing in (
-      c.requires.0,
-      c.requires.1,
       rw c.point_of-x.ensures (point_below c.args.shape c.args.slot),
       rw c.sub-good.ensures ((laws f).minus_below _ _),
-      c.requires.2.family.placed.r_least,
+      c.requires.0.family.placed.r_least,
     )
 
 pub slice_bounds-fill_blocks-end-3 : goal.slice_bounds-fill_blocks-end-3
 slice_bounds-fill_blocks-end-3 c =
     let a = c.args in
     let t = c.missing_of-missing in
-    sym (length-take-le (a.shape.k + t.result - a.shape.r) a.row.now (omega (arith, lead_worked a.shape c.requires.2 t.result t.ensures c.if-missing-eq0.false, c.requires.4)))
+    sym (length-take-le (a.shape.k + t.result - a.shape.r) a.row.now (omega (arith, lead_worked a.shape c.requires.0 t.result t.ensures c.if-missing-eq0.false, c.requires.2)))
 
 pub fill_run-requires : goal.fill_run-requires
 unfolding vanishing
 fill_run-requires c =
     let h = c.args.shape in
     let t = c.missing_of-missing in (
-      c.requires.0,
-      c.requires.1,
       rw c.point_of-x.ensures (point_below h c.args.slot),
       rw c.vanishing_at-vanishing.ensures (vanish_below h _ (missing h) h.n),
     )
@@ -99,10 +93,10 @@ returns c =
     let ys = c.fill_run.new.row in
     let lead = h.k + t.result - h.r in
     let b = xs ++ drop lead a.row.now in
-    let d = lead_worked h c.requires.2 t.result t.ensures some in
-    let W = written_front (blocks h.field x.result g.result 1 h.r) lead a.row.now xs (omega (arith, d, c.requires.4)) c.fill_blocks-2.ensures in
-    row_short h c.requires.2 a.slot x.result j.result y.result t.result c.requires.3 x.ensures j.ensures.0 y.ensures t.ensures a.row.now
+    let d = lead_worked h c.requires.0 t.result t.ensures some in
+    let W = written_front (blocks h.field x.result g.result 1 h.r) lead a.row.now xs (omega (arith, d, c.requires.2)) c.fill_blocks-2.ensures in
+    row_short h c.requires.0 a.slot x.result j.result y.result t.result c.requires.1 x.ensures j.ensures.0 y.ensures t.ensures a.row.now
     (splice lead (h.k - lead) b ys) some g.result v.result lead b
     (g.ensures ∙ ap (minus h.field y.result) c.constant_of.ensures) v.ensures d.1 W
-    (written_part (run h.field x.result v.result lead) (run h.field x.result v.result 0) lead (h.k - lead) h.k b ys (omega (arith, d, W.size, c.requires.4)) (omega (arith, d))
+    (written_part (run h.field x.result v.result lead) (run h.field x.result v.result 0) lead (h.k - lead) h.k b ys (omega (arith, d, W.size, c.requires.2)) (omega (arith, d))
     c.fill_run.ensures (λ i l. run_from h.field x.result v.result lead i))

@@ -13,11 +13,11 @@ loop-i-init c =
 
 pub overflow_add-shape : goal.overflow_add-shape
 overflow_add-shape c =
-    omega (arith, room_byte c.args.shape c.requires.2, missing_inside c.args.shape c.requires.2 (c.loop-i.i - 1) (omega (arith, c.missing_of-i.ensures)))
+    omega (arith, room_byte c.args.shape c.requires, missing_inside c.args.shape c.requires (c.loop-i.i - 1) (omega (arith, c.missing_of-i.ensures)))
 
 pub point_of-requires : goal.point_of-requires
 point_of-requires c =
-    (c.requires.0, c.requires.2, missing_inside c.args.shape c.requires.2 (c.loop-i.i - 1) (omega (arith, c.missing_of-i.ensures)))
+    (c.requires, missing_inside c.args.shape c.requires (c.loop-i.i - 1) (omega (arith, c.missing_of-i.ensures)))
 
 pub loop-i-preserved : goal.loop-i-preserved
 loop-i-preserved c =

@@ -10,19 +10,17 @@ use Rattle.group_plans.proofs.plan_groups.Goals as goal
 
 pub blocks_of-blocks-requires : goal.blocks_of-blocks-requires
 blocks_of-blocks-requires c =
-    let L = c.requires.2.plain in
+    let L = c.requires.0.plain in
     (L.family.placed, omega (arith, k_most c.args.shape L))
 
 pub plan_powers-requires : goal.plan_powers-requires
 plan_powers-requires c =
     let t = c.tables_for-g in
-    let few = groups_most c.args.shape c.requires.2.plain.family.placed in
+    let few = groups_most c.args.shape c.requires.0.plain.family.placed in
     let most = tables_most t.result t.ensures.1 in (
-      c.requires.0,
-      c.requires.1,
       tables_least t.result t.ensures.1,
       most,
-      t.ensures.2 (omega (arith, c.requires.2.few)),
+      t.ensures.2 (omega (arith, c.requires.0.few)),
       omega (arith, c.groups_of-groups.ensures),
     )
 
@@ -34,7 +32,7 @@ loop-j-preserved c =
     let t = c.tables_for-g in
     let shape = c.args.shape in
     several_more (level_at shape) c.blocks_of-blocks.result t.result l.j x.result l.plan _ (tables_most t.result t.ensures.1)
-    (x.ensures ∙ ap (λ f. power f γ (l.j * size shape)) c.requires.2.bytes) c.plan_powers.ensures l.invariant
+    (x.ensures ∙ ap (λ f. power f γ (l.j * size shape)) c.requires.0.bytes) c.plan_powers.ensures l.invariant
 
 pub returns : goal.returns
 returns c =

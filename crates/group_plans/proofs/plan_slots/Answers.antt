@@ -8,16 +8,16 @@ use Rattle.group_plans.proofs.plan_slots.Goals as goal
 
 pub point_of-x-requires : goal.point_of-x-requires
 point_of-x-requires c =
-    let P = c.requires.2.plain.family.placed in
-    (c.requires.0, P, slot_room c.args.shape P c.loop-p.p c.loop-p-test.true)
+    let P = c.requires.0.plain.family.placed in
+    (P, slot_room c.args.shape P c.loop-p.p c.loop-p-test.true)
 
 pub plan_powers-requires : goal.plan_powers-requires
 plan_powers-requires c =
     let t = c.tables_for-g in
-    let P = c.requires.2.plain.family.placed in
+    let P = c.requires.0.plain.family.placed in
     let many = n_most c.args.shape P in
     let most = tables_most t.result t.ensures.1 in
-    (c.requires.0, c.requires.1, tables_least t.result t.ensures.1, most, t.ensures.2 (r_most c.args.shape P), omega arith)
+    (tables_least t.result t.ensures.1, most, t.ensures.2 (r_most c.args.shape P), omega arith)
 
 pub loop-p-preserved : goal.loop-p-preserved
 loop-p-preserved c =

@@ -22,8 +22,6 @@ settle-i-requires c =
       record { below = c.requires.2; differ = c.requires.3 },
       λ p h. rw (d.ensures.put p (omega arith) h) (masked_below (q a.field) (at a.word.now p) (at a.marks.now p) (zero_below a.field) (c.requires.4 p h)),
       kept_enough a.marks.now (length a.marks.now) a.most c.requires.5,
-      c.requires.6,
-      c.requires.7,
     )
 
 pub returns : goal.returns

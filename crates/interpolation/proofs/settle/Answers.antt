@@ -15,7 +15,7 @@ pub advance-c-requires : goal.advance-c-requires
 advance-c-requires c =
     let l = c.loop-i in
     let m = length c.args.marks.now in
-    (c.requires.3, omega arith, omega (arith, c.requires.3, c.requires.6, count_most (kept c.args.marks.now) m), c.requires.4, l.invariant.1, c.requires.7, c.requires.8)
+    (c.requires.3, omega arith, omega (arith, c.requires.3, c.requires.6, count_most (kept c.args.marks.now) m), c.requires.4, l.invariant.1)
 
 pub loop-i-preserved : goal.loop-i-preserved
 loop-i-preserved c =

@@ -8,11 +8,11 @@ use Rattle.code.proofs.Places.{groups_least}
 use Rattle.layout.proofs.constant_of.Goals as goal
 
 pub overflow_sub-groups_of : goal.overflow_sub-groups_of
-overflow_sub-groups_of c = omega (arith, c.groups_of.ensures, groups_least c.args.shape c.requires.1)
+overflow_sub-groups_of c = omega (arith, c.groups_of.ensures, groups_least c.args.shape c.requires)
 
 pub group_power-requires : goal.group_power-requires
 group_power-requires c =
-    (c.requires.0, c.requires.1, omega (arith, c.groups_of.ensures, groups_least c.args.shape c.requires.1))
+    (c.requires, omega (arith, c.groups_of.ensures, groups_least c.args.shape c.requires))
 
 pub returns : goal.returns
 unfolding constant

@@ -10,13 +10,13 @@ use Rattle.layout.proofs.group_power.Goals as goal
 pub overflow_mul-e : goal.overflow_mul-e
 overflow_mul-e c =
     let e : c.args.group * c.size_of.result ≡ c.args.group * size c.args.shape = ap (λ n. c.args.group * n) c.size_of.ensures in
-    omega (arith, e, group_exponent c.args.shape c.requires.1 c.args.group c.requires.2, q_most c.args.shape.field)
+    omega (arith, e, group_exponent c.args.shape c.requires.0 c.args.group c.requires.1, q_most c.args.shape.field)
 
-pub power_at-requires : goal.power_at-requires
-power_at-requires c =
+pub generator_power-requires : goal.generator_power-requires
+generator_power-requires c =
     let e : c.args.group * c.size_of.result ≡ c.args.group * size c.args.shape = ap (λ n. c.args.group * n) c.size_of.ensures in
-    (c.requires.0, omega (arith, e, group_exponent c.args.shape c.requires.1 c.args.group c.requires.2))
+    (omega (arith, e, group_exponent c.args.shape c.requires.0 c.args.group c.requires.1))
 
 pub returns : goal.returns
 returns c =
-    c.power_at.ensures ∙ ap (λ n. power c.args.shape.field γ (c.args.group * n)) c.size_of.ensures
+    c.generator_power.ensures ∙ ap (λ n. power c.args.shape.field γ (c.args.group * n)) c.size_of.ensures

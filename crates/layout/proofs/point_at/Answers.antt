@@ -5,7 +5,7 @@ use Rattle.layout.proofs.point_at.Goals as goal
 pub member_point-requires : goal.member_point-requires
 member_point-requires c =
     let w = c.width_of in
-    (c.requires.0, worked_below c.args.shape c.requires.1 c.args.group c.args.member w.result c.requires.2 c.requires.3 w.ensures)
+    (worked_below c.args.shape c.requires.0 c.args.group c.args.member w.result c.requires.1 c.requires.2 w.ensures)
 
 pub returns : goal.returns
 returns c =

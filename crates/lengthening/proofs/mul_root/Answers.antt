@@ -17,7 +17,7 @@ loop-p-preserved c =
     let f = c.args.field in
     let next : suc l.p ≡ l.p + 1 = omega arith in
     let own = l.invariant.0.done.behind l.p (omega arith) in (
-      writing_more c.loop-p-test.true (omega (arith, c.requires.2, c.requires.3))
+      writing_more c.loop-p-test.true (omega (arith, c.requires.0, c.requires.1))
           (c.mul_add.ensures ∙ ap₂ (plus f) l.invariant.1 (ap₂ (times f) c.sub-k.ensures own)) l.invariant.0,
       own ∙ ap (lower c.args.coefs.now) next,
     )

@@ -11,21 +11,21 @@ pub loop-m-init : goal.loop-m-init
 loop-m-init c =
     let a = c.args in (
       refl,
-      local_none a.shape.field a.shape.r a.y (length a.row.now) a.row.now (omega arith) (r_most a.shape c.requires.2),
+      local_none a.shape.field a.shape.r a.y (length a.row.now) a.row.now (omega arith) (r_most a.shape c.requires),
     )
 
 pub bounds-local-i : goal.bounds-local-i
 bounds-local-i c =
-    place_room c.args.shape c.requires.2 c.loop-m.i c.place_before-i.result c.place_before-i.ensures
+    place_room c.args.shape c.requires c.loop-m.i c.place_before-i.result c.place_before-i.ensures
 
 pub bounds-local-i-in-loop-m : goal.bounds-local-i-in-loop-m
 bounds-local-i-in-loop-m c =
-    place_room c.args.shape c.requires.2 c.loop-m.i c.place_before-i.result c.place_before-i.ensures
+    place_room c.args.shape c.requires c.loop-m.i c.place_before-i.result c.place_before-i.ensures
 
 pub loop-m-preserved : goal.loop-m-preserved
 loop-m-preserved c =
     let a = c.args in
-    let P = c.requires.2 in
+    let P = c.requires in
     let l = c.loop-m in
     let m = l.m - 1 in
     let e : l.m ≡ suc m = omega arith in
@@ -45,4 +45,4 @@ returns c =
     let l = c.loop-m in
     let z : l.m ≡ 0 = omega arith in
     let C = subst (λ n. LocalFrom a.shape.field a.shape.r a.y n a.row.now l.local) z l.invariant.1 in
-    (C.size, local_all a.shape a.y a.row.now l.local (r_most a.shape c.requires.2) C)
+    (C.size, local_all a.shape a.y a.row.now l.local (r_most a.shape c.requires) C)

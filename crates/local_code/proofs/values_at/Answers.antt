@@ -10,7 +10,7 @@ pub loop-i-init : goal.loop-i-init
 loop-i-init c =
     let a = c.args in
     let xs = a.points.now in
-    values_none a.field a.coefficients.now xs (length xs) c.requires.2
+    values_none a.field a.coefficients.now xs (length xs) c.requires
 
 pub loop-i-preserved : goal.loop-i-preserved
 loop-i-preserved c =
@@ -20,5 +20,5 @@ loop-i-preserved c =
     let cs = a.coefficients.now in
     let i = l.i - 1 in
     let e : l.i ≡ suc i = omega arith in
-    values_more a.field cs xs (length xs) c.requires.2 i l.values c.horner_step.new.values (omega arith) c.horner_step.ensures
+    values_more a.field cs xs (length xs) c.requires i l.values c.horner_step.new.values (omega arith) c.horner_step.ensures
     (subst (λ n. ValuesAt a.field (drop n cs) xs (length xs) l.values) e l.invariant)

@@ -40,23 +40,23 @@ left s j ws ms e =
     }
 
 pub members_of-members-requires : goal.members_of-members-requires
-members_of-members-requires c = (c.requires.2.plain.family.placed, omega (arith, c.requires.3))
+members_of-members-requires c = (c.requires.0.plain.family.placed, omega (arith, c.requires.1))
 
 pub overflow_cast-members : goal.overflow_cast-members
-overflow_cast-members c = omega (arith, c.members_of-members.ensures.2, c.requires.2.plain.family.placed.size_most)
+overflow_cast-members c = omega (arith, c.members_of-members.ensures.2, c.requires.0.plain.family.placed.size_most)
 
 pub step_of-step-requires : goal.step_of-step-requires
-step_of-step-requires c = c.requires.2.plain.family.placed
+step_of-step-requires c = c.requires.0.plain.family.placed
 
 -- the members stand in the span
 inside : (c : After-step_of-step) → let a = c.args in (i : ℕ) → i < c.members_of-members.result → i * c.step_of-step.result < span a.shape a.group
 inside c i l =
     let h = c.args.shape in
     let e : i * c.step_of-step.result ≡ i * step h = ap (λ t. i * t) c.step_of-step.ensures in
-    omega (arith, member_in_span h c.requires.2.plain.family.placed c.args.group i (omega (arith, c.members_of-members.ensures.0)))
+    omega (arith, member_in_span h c.requires.0.plain.family.placed c.args.group i (omega (arith, c.members_of-members.ensures.0)))
 
 pub losses_from-requires : goal.losses_from-requires
-losses_from-requires c = λ i l. omega (arith, inside (goal.at.losses_from-requires c).After-step_of-step i l, c.requires.5)
+losses_from-requires c = λ i l. omega (arith, inside (goal.at.losses_from-requires c).After-step_of-step i l, c.requires.3)
 
 -- how many members are lost
 counted : (c : After-losses_from) → let a = c.args in
@@ -92,7 +92,7 @@ one_lost c counted_here =
 
 pub lost_member-i-requires : goal.lost_member-i-requires
 lost_member-i-requires c =
-    (λ i l. omega (arith, inside (goal.at.lost_member-i-requires c).After-step_of-step i l, c.requires.5), one_lost (goal.at.lost_member-i-requires c).Else-losses_from-ne1 (counted (goal.at.lost_member-i-requires c).After-losses_from))
+    (λ i l. omega (arith, inside (goal.at.lost_member-i-requires c).After-step_of-step i l, c.requires.3), one_lost (goal.at.lost_member-i-requires c).Else-losses_from-ne1 (counted (goal.at.lost_member-i-requires c).After-losses_from))
 
 -- the lost member is one of the group's, and stands in the span
 member_within : (c : After-lost_member-i)
@@ -104,9 +104,9 @@ member_within c inside_here =
     let i = c.lost_member-i in
     let z = c.members_of-members in (
       omega (arith, i.ensures.0, z.ensures.0),
-      omega (arith, z.ensures, c.requires.2.plain.family.placed.size_most),
+      omega (arith, z.ensures, c.requires.0.plain.family.placed.size_most),
       inside_here i.result i.ensures.0,
-      span_byte c.args.shape c.requires.2.plain.family.placed c.args.group c.requires.3,
+      span_byte c.args.shape c.requires.0.plain.family.placed c.args.group c.requires.1,
     )
 
 pub overflow_cast-member : goal.overflow_cast-member
@@ -114,24 +114,24 @@ overflow_cast-member c = omega (arith, member_within (goal.at.overflow_cast-memb
 
 pub slot_at-slot-requires : goal.slot_at-slot-requires
 slot_at-slot-requires c =
-    (c.requires.2.plain.family.placed, c.requires.3, omega (arith, (member_within (goal.at.slot_at-slot-requires c).After-lost_member-i (inside (goal.at.slot_at-slot-requires c).After-step_of-step)).0, members_most c.args.shape c.requires.2.plain.family.placed c.args.group))
+    (c.requires.0.plain.family.placed, c.requires.1, omega (arith, (member_within (goal.at.slot_at-slot-requires c).After-lost_member-i (inside (goal.at.slot_at-slot-requires c).After-step_of-step)).0, members_most c.args.shape c.requires.0.plain.family.placed c.args.group))
 
 -- the slot of the lost member
 slot_inside : (c : After-slot_at-slot)
     → (member_within_here : let a = c.args in (c.lost_member-i.result < members a.shape a.group) × (members a.shape a.group ≤ 17) × (c.lost_member-i.result * c.step_of-step.result < span a.shape a.group) × (span a.shape a.group ≤ 255))
     → c.slot_at-slot.result < c.args.shape.n
 slot_inside c member_within_here =
-    omega (arith, c.slot_at-slot.ensures, member_slot c.args.shape c.requires.2.plain.family.placed c.args.group c.lost_member-i.result (member_within_here).0)
+    omega (arith, c.slot_at-slot.ensures, member_slot c.args.shape c.requires.0.plain.family.placed c.args.group c.lost_member-i.result (member_within_here).0)
 
 pub weights_of-weights-requires : goal.weights_of-weights-requires
-weights_of-weights-requires c = (mending c.args.shape c.requires.2, slot_inside (goal.at.weights_of-weights-requires c).After-slot_at-slot (member_within (goal.at.weights_of-weights-requires c).After-lost_member-i (inside (goal.at.weights_of-weights-requires c).After-step_of-step)))
+weights_of-weights-requires c = (mending c.args.shape c.requires.0, slot_inside (goal.at.weights_of-weights-requires c).After-slot_at-slot (member_within (goal.at.weights_of-weights-requires c).After-lost_member-i (inside (goal.at.weights_of-weights-requires c).After-step_of-step)))
 
 pub overflow_sub-number : goal.overflow_sub-number
 overflow_sub-number c = omega (arith, c.members_of-members.ensures.1)
 
 pub mates_of-mates-requires : goal.mates_of-mates-requires
 mates_of-mates-requires c =
-    (mending c.args.shape c.requires.2, c.requires.3, (member_within (goal.at.mates_of-mates-requires c).After-lost_member-i (inside (goal.at.mates_of-mates-requires c).After-step_of-step)).0, c.requires.4)
+    (mending c.args.shape c.requires.0, c.requires.1, (member_within (goal.at.mates_of-mates-requires c).After-lost_member-i (inside (goal.at.mates_of-mates-requires c).After-step_of-step)).0, c.requires.2)
 
 -- it is the only one that is lost
 only : (c : After-lost_member-i)
@@ -159,7 +159,7 @@ mates_many c member_within_here =
     let h = a.shape in
     let i = c.lost_member-i.result in
     let m = member_within_here in
-    let few = mates_few h c.requires.2.plain.family.placed a.group i c.requires.3 m.0 in
+    let few = mates_few h c.requires.0.plain.family.placed a.group i c.requires.1 m.0 in
     let p = ap (λ p. length (mates h p)) c.slot_at-slot.ensures in
     let l = ap (λ l. length l) c.mates_of-mates.ensures ∙ length_sixteen (part_mates h a.group i a.part.now) in
     (omega (arith, few, p, c.members_of-members.ensures.0), omega (arith, few, p, m.1, l), l)
@@ -181,7 +181,7 @@ told c member_within_here only_here x e =
     let p = c.slot_at-slot in
     let l = (member_within_here).0 in
     ap (λ b. b && part_held h j ws ms) (only_here).0 ∙ held_lone h j i ws ms (only_here).0 l (only_here).1
-    ∙ sym (mates_told h (mending h c.requires.2) j i c.requires.3 l p.result p.ensures c.mates_of-mates.result ws c.mates_of-mates.ensures) ∙ sym e
+    ∙ sym (mates_told h (mending h c.requires.0) j i c.requires.1 l p.result p.ensures c.mates_of-mates.result ws c.mates_of-mates.ensures) ∙ sym e
 
 pub slice_bounds-mates-end : goal.slice_bounds-mates-end
 slice_bounds-mates-end c = omega (arith, mates_many (goal.at.slice_bounds-mates-end c).After-mates_of-mates (member_within (goal.at.slice_bounds-mates-end c).After-lost_member-i (inside (goal.at.slice_bounds-mates-end c).After-step_of-step)))
@@ -211,7 +211,7 @@ counted_checks c mates_many_here =
 
 pub pass_checks-requires : goal.pass_checks-requires
 pass_checks-requires c =
-    (mending c.args.shape c.requires.2, slot_inside (goal.at.pass_checks-requires c).After-slot_at-slot (member_within (goal.at.pass_checks-requires c).After-lost_member-i (inside (goal.at.pass_checks-requires c).After-step_of-step)), counted_checks (goal.at.pass_checks-requires c).After-checks_with-n (mates_many (goal.at.pass_checks-requires c).After-mates_of-mates (member_within (goal.at.pass_checks-requires c).After-lost_member-i (inside (goal.at.pass_checks-requires c).After-step_of-step))), (mates_many (goal.at.pass_checks-requires c).After-mates_of-mates (member_within (goal.at.pass_checks-requires c).After-lost_member-i (inside (goal.at.pass_checks-requires c).After-step_of-step))).1)
+    (mending c.args.shape c.requires.0, slot_inside (goal.at.pass_checks-requires c).After-slot_at-slot (member_within (goal.at.pass_checks-requires c).After-lost_member-i (inside (goal.at.pass_checks-requires c).After-step_of-step)), counted_checks (goal.at.pass_checks-requires c).After-checks_with-n (mates_many (goal.at.pass_checks-requires c).After-mates_of-mates (member_within (goal.at.pass_checks-requires c).After-lost_member-i (inside (goal.at.pass_checks-requires c).After-step_of-step))), (mates_many (goal.at.pass_checks-requires c).After-mates_of-mates (member_within (goal.at.pass_checks-requires c).After-lost_member-i (inside (goal.at.pass_checks-requires c).After-step_of-step))).1)
 
 -- every mate's symbol is below q
 below : (c : Else-not-strips_below) → all_below c.order-q.result (take (c.members_of-members.result - 1) c.mates_of-mates.result) ≡ true
@@ -226,7 +226,7 @@ checked : (c : Else-not-strips_below)
 checked c mates_many_here slot_inside_here =
     let m = mates_many_here in
     tells c.args.shape c.slot_at-slot.result c.mates_of-mates.result (c.members_of-members.result - 1) c.order-q.result m.0 m.1 c.order-q.ensures.0
-    c.requires.2 (slot_inside_here) (below c)
+    c.requires.0 (slot_inside_here) (below c)
 
 pub returns-then-not-pass_checks : goal.returns-then-not-pass_checks
 returns-then-not-pass_checks c =
@@ -249,7 +249,7 @@ mended c mates_many_here told_here checked_here slot_inside_here below_here coun
       | then-n-ne0+else-not-pass_checks w ↦ told_here _ (checked_here _ w.pass_checks.ensures) ∙ w.if-not-pass_checks.false
       | else-n-ne0 w ↦ told_here true
           (all_held c.args.shape c.slot_at-slot.result c.mates_of-mates.result (c.members_of-members.result - 1) c.order-q.result m.0 m.1 c.order-q.ensures.0
-          c.requires.2 (slot_inside_here) (below_here) (sym (counted_checks_here) ∙ w.if-n-ne0.false))
+          c.requires.0 (slot_inside_here) (below_here) (sym (counted_checks_here) ∙ w.if-n-ne0.false))
     ]
 
 pub overflow_mul-place : goal.overflow_mul-place
@@ -259,24 +259,22 @@ pub dot-requires : goal.dot-requires
 dot-requires c =
     let z = c.members_of-members in
     let few = (member_within (goal.at.dot-requires c).After-lost_member-i (inside (goal.at.dot-requires c).After-step_of-step)).1 in (
-      c.requires.0,
-      c.requires.1,
       omega (arith, z.ensures.0, few, ap (λ l. length l) c.weights_of-weights.ensures, length_sixteen (weights c.args.shape c.slot_at-slot.result)),
       omega (arith, z.ensures.0, few, (mates_many (goal.at.dot-requires c).After-mates_of-mates (member_within (goal.at.dot-requires c).After-lost_member-i (inside (goal.at.dot-requires c).After-step_of-step))).2),
     )
 
 pub bounds-part-place : goal.bounds-part-place
-bounds-part-place c = omega (arith, member_within (goal.at.bounds-part-place c).After-lost_member-i (inside (goal.at.bounds-part-place c).After-step_of-step), c.requires.4)
+bounds-part-place c = omega (arith, member_within (goal.at.bounds-part-place c).After-lost_member-i (inside (goal.at.bounds-part-place c).After-step_of-step), c.requires.2)
 
 pub bounds-marks-place : goal.bounds-marks-place
-bounds-marks-place c = omega (arith, member_within (goal.at.bounds-marks-place c).After-lost_member-i (inside (goal.at.bounds-marks-place c).After-step_of-step), c.requires.5)
+bounds-marks-place c = omega (arith, member_within (goal.at.bounds-marks-place c).After-lost_member-i (inside (goal.at.bounds-marks-place c).After-step_of-step), c.requires.3)
 
 pub returns : goal.returns
 returns c =
     let a = c.args in
     let h = a.shape in
     let j = a.group in
-    let M = mending h c.requires.2 in
+    let M = mending h c.requires.0 in
     let ws = a.part.now in
     let ms = a.marks.now in
     let i = c.lost_member-i.result in
@@ -292,11 +290,11 @@ returns c =
     let v = c.dot.result in
     let g : ℕ → ℕ = λ k. repaired h (slot_at h j k) (part_mates h j k ws) in
     let e : v ≡ g i = c.dot.ensures
-    ∙ mended_symbol h M j i c.requires.3 l p.result (z.result - 1) p.ensures (ap (λ n. n - 1) z.ensures.0) W.result c.mates_of-mates.result ws W.ensures c.mates_of-mates.ensures in
+    ∙ mended_symbol h M j i c.requires.1 l p.result (z.result - 1) p.ensures (ap (λ n. n - 1) z.ensures.0) W.result c.mates_of-mates.result ws W.ensures c.mates_of-mates.ensures in
     record {
       number = rw y refl;
       word = subst (λ (n : ℕ). MembersSet h j (instead h b ms g ws) ws (set ws n v)) (sym place)
-          (mended_part h j b ms g ws M.placed i v l (only (goal.at.returns c).After-lost_member-i (counted (goal.at.returns c).After-losses_from)).1 (only (goal.at.returns c).After-lost_member-i (counted (goal.at.returns c).After-losses_from)).0 y e (omega (arith, c.requires.4)));
+          (mended_part h j b ms g ws M.placed i v l (only (goal.at.returns c).After-lost_member-i (counted (goal.at.returns c).After-losses_from)).1 (only (goal.at.returns c).After-lost_member-i (counted (goal.at.returns c).After-losses_from)).0 y e (omega (arith, c.requires.2)));
       marks = subst (λ (n : ℕ). MembersSet h j (instead h b ms (λ k. 0) ms) ms (set ms n 0)) (sym place)
-          (mended_part h j b ms (λ k. 0) ms M.placed i 0 l (only (goal.at.returns c).After-lost_member-i (counted (goal.at.returns c).After-losses_from)).1 (only (goal.at.returns c).After-lost_member-i (counted (goal.at.returns c).After-losses_from)).0 y refl (omega (arith, c.requires.5)));
+          (mended_part h j b ms (λ k. 0) ms M.placed i 0 l (only (goal.at.returns c).After-lost_member-i (counted (goal.at.returns c).After-losses_from)).1 (only (goal.at.returns c).After-lost_member-i (counted (goal.at.returns c).After-losses_from)).0 y refl (omega (arith, c.requires.3)));
     }

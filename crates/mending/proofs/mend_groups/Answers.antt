@@ -19,7 +19,7 @@ use Rattle.mending.proofs.mend_groups.Goals as goal
 use Rattle.mending.proofs.mend_groups.Goals.{After-mend_group-one, After-span_of, At-loop-j, In-loop-j}
 
 pub groups_of-all-requires : goal.groups_of-all-requires
-groups_of-all-requires c = c.requires.2.plain.family.placed
+groups_of-all-requires c = c.requires.0.plain.family.placed
 
 pub loop-j-init : goal.loop-j-init
 loop-j-init c =
@@ -33,10 +33,10 @@ inside : (c : In-loop-j) → c.loop-j.j < groups c.args.shape
 inside c = omega (arith, c.loop-j-test.true, c.groups_of-all.ensures)
 
 pub first_of-start-requires : goal.first_of-start-requires
-first_of-start-requires c = (c.requires.2.plain.family.placed, inside (goal.at.first_of-start-requires c).In-loop-j)
+first_of-start-requires c = (c.requires.0.plain.family.placed, inside (goal.at.first_of-start-requires c).In-loop-j)
 
 pub span_of-requires : goal.span_of-requires
-span_of-requires c = (c.requires.2.plain.family.placed, inside (goal.at.span_of-requires c).In-loop-j)
+span_of-requires c = (c.requires.0.plain.family.placed, inside (goal.at.span_of-requires c).In-loop-j)
 
 -- the group's span, and that all is small
 within : (c : After-span_of)
@@ -44,7 +44,7 @@ within : (c : After-span_of)
     → (c.first_of-start.result + c.span_of.result ≤ c.args.shape.n) × (c.args.shape.n ≤ 255)
 within c inside_here =
     let h = c.args.shape in
-    let P = c.requires.2.plain.family.placed in
+    let P = c.requires.0.plain.family.placed in
     let m = c.first_of-start in (
       span_within h P c.loop-j.j m.result c.span_of.result (inside_here) (sym m.ensures) (sym c.span_of.ensures),
       n_most h P,
@@ -53,7 +53,7 @@ within c inside_here =
 -- both buffers keep their lengths
 lengths : (c : At-loop-j) → let a = c.args in
     (length c.loop-j.word ≡ a.shape.n) × (length c.loop-j.marks ≡ a.shape.n)
-lengths c = (c.loop-j.invariant.word.same ∙ c.requires.3, c.loop-j.invariant.marks.same ∙ c.requires.4)
+lengths c = (c.loop-j.invariant.word.same ∙ c.requires.1, c.loop-j.invariant.marks.same ∙ c.requires.2)
 
 pub overflow_add-end : goal.overflow_add-end
 overflow_add-end c = omega (arith, within (goal.at.overflow_add-end c).After-span_of (inside (goal.at.overflow_add-end c).In-loop-j))
@@ -71,15 +71,13 @@ lent c = omega (arith, c.span_of.ensures)
 pub mend_group-one-requires : goal.mend_group-one-requires
 mend_group-one-requires c =
     let h = c.args.shape in
-    let P = c.requires.2.plain.family.placed in
+    let P = c.requires.0.plain.family.placed in
     let l = c.loop-j in
     let m = c.first_of-start in
     let b = inside (goal.at.mend_group-one-requires c).In-loop-j in
     let k = m.result + c.span_of.result - m.result in
     let e = lengths (goal.at.mend_group-one-requires c).At-loop-j in (
       c.requires.0,
-      c.requires.1,
-      c.requires.2,
       b,
       length_lent h P l.j m.result k b (sym m.ensures) (lent (goal.at.mend_group-one-requires c).After-span_of) l.word e.0,
       length_lent h P l.j m.result k b (sym m.ensures) (lent (goal.at.mend_group-one-requires c).After-span_of) l.marks e.1,
@@ -96,7 +94,7 @@ more : (c : After-mend_group-one)
 more c inside_here lent_here =
     let a = c.args in
     let h = a.shape in
-    let M = mending h c.requires.2 in
+    let M = mending h c.requires.0 in
     let l = c.loop-j in
     let b = inside_here in
     let m = c.first_of-start.result in
@@ -110,15 +108,15 @@ more c inside_here lent_here =
     let w = c.mend_group-one.new.part in
     let n = c.mend_group-one.new.marks in
     record {
-      word = word_step h M l.j m k b e (lent_here) ws ms l.word l.marks c.requires.3 c.requires.4 D.word D.marks x w n G;
-      marks = marks_step h M l.j m k b e (lent_here) ws ms l.word l.marks c.requires.3 c.requires.4 D.word D.marks x w n G;
-      many = ap (λ y. y + x) D.many ∙ number_step h M l.j m k b e (lent_here) ws ms l.word l.marks c.requires.3 c.requires.4 D.word D.marks x w n G;
+      word = word_step h M l.j m k b e (lent_here) ws ms l.word l.marks c.requires.1 c.requires.2 D.word D.marks x w n G;
+      marks = marks_step h M l.j m k b e (lent_here) ws ms l.word l.marks c.requires.1 c.requires.2 D.word D.marks x w n G;
+      many = ap (λ y. y + x) D.many ∙ number_step h M l.j m k b e (lent_here) ws ms l.word l.marks c.requires.1 c.requires.2 D.word D.marks x w n G;
     }
 
 pub overflow_add-number : goal.overflow_add-number
 overflow_add-number c =
     let h = c.args.shape in
-    omega (arith, (more (goal.at.overflow_add-number c).After-mend_group-one (inside (goal.at.overflow_add-number c).In-loop-j) (lent (goal.at.overflow_add-number c).After-span_of)).many, count_most (repairs h c.args.word.now c.args.marks.now) (c.loop-j.j + 1), inside (goal.at.overflow_add-number c).In-loop-j, groups_most h c.requires.2.plain.family.placed)
+    omega (arith, (more (goal.at.overflow_add-number c).After-mend_group-one (inside (goal.at.overflow_add-number c).In-loop-j) (lent (goal.at.overflow_add-number c).After-span_of)).many, count_most (repairs h c.args.word.now c.args.marks.now) (c.loop-j.j + 1), inside (goal.at.overflow_add-number c).In-loop-j, groups_most h c.requires.0.plain.family.placed)
 
 pub loop-j-preserved : goal.loop-j-preserved
 loop-j-preserved c = more (goal.at.loop-j-preserved c).After-mend_group-one (inside (goal.at.loop-j-preserved c).In-loop-j) (lent (goal.at.loop-j-preserved c).After-span_of)
@@ -134,11 +132,11 @@ unfolding passed marks_after mended
 returns c =
     let a = c.args in
     let h = a.shape in
-    let P = c.requires.2.plain.family.placed in
+    let P = c.requires.0.plain.family.placed in
     let l = c.loop-j in
     let D = l.invariant in
     let j : l.j ≡ groups h = omega (arith, c.groups_of-all.ensures) in (
-      upto_all h (passed_at h a.word.now a.marks.now) P l.j a.word.now l.word j c.requires.3 D.word,
-      upto_all h (mark_at h a.word.now a.marks.now) P l.j a.marks.now l.marks j c.requires.4 D.marks,
+      upto_all h (passed_at h a.word.now a.marks.now) P l.j a.word.now l.word j c.requires.1 D.word,
+      upto_all h (mark_at h a.word.now a.marks.now) P l.j a.marks.now l.marks j c.requires.2 D.marks,
       D.many ∙ ap (count (repairs h a.word.now a.marks.now)) j,
     )

@@ -16,12 +16,12 @@ use Rattle.parity.proofs.check_weights.Goals as goal
 use Rattle.parity.proofs.check_weights.Goals.{After-mates_number-number}
 
 pub mates_number-number-requires : goal.mates_number-number-requires
-mates_number-number-requires c = c.requires.2
+mates_number-number-requires c = c.requires.0
 
 -- there are at most sixteen checks
 few : (c : After-mates_number-number) → c.args.l < 16
 few c =
-    omega (arith, c.requires.4, checks_most c.args.shape c.args.slot, r_most c.args.shape c.requires.2.placed)
+    omega (arith, c.requires.2, checks_most c.args.shape c.args.slot, r_most c.args.shape c.requires.0.placed)
 
 pub overflow_add-own : goal.overflow_add-own
 overflow_add-own c = omega (arith, few (goal.at.overflow_add-own c).After-mates_number-number)
@@ -46,9 +46,6 @@ bounds-terms-i c = omega (arith, c.mates_number-number.ensures.1, c.loop-i-test.
 pub bounds-factors-i : goal.bounds-factors-i
 bounds-factors-i c = omega (arith, c.mates_number-number.ensures.1, c.loop-i-test.true)
 
-pub mul-requires : goal.mul-requires
-mul-requires c = (c.requires.0, c.requires.1)
-
 pub bounds-row-i : goal.bounds-row-i
 bounds-row-i c = omega (arith, c.mates_number-number.ensures.1, c.loop-i-test.true)
 
@@ -61,12 +58,12 @@ loop-i-preserved c =
 pub returns : goal.returns
 returns c =
     let a = c.args in
-    let M = c.requires.2 in
-    let h = c.requires.3 in
+    let M = c.requires.0 in
+    let h = c.requires.1 in
     let n = mates_number_is a.shape a.slot h in
     let e : c.loop-i.i ≡ length (mates a.shape a.slot) = omega (arith, c.mates_number-number.ensures.0, n, c.loop-i-test.false) in
     let is : (i : ℕ) → i < length (mates a.shape a.slot) → entry a.shape.field a.l a.factors.now a.terms.now (at a.terms.now (256 + a.l)) i ≡ at (check_weights a.shape a.slot a.l) i
-    = entry_is a.shape M a.slot h (checks a.shape a.slot) a.l a.factors.now a.terms.now (at a.terms.now (256 + a.l)) c.requires.4 c.requires.5 c.requires.6 refl in
+    = entry_is a.shape M a.slot h (checks a.shape a.slot) a.l a.factors.now a.terms.now (at a.terms.now (256 + a.l)) c.requires.2 c.requires.3 c.requires.4 refl in
     let F : Filled (at (check_weights a.shape a.slot a.l)) c.loop-i.i (replicate 16 0) c.loop-i.row
     = record { size = c.loop-i.invariant.size; below = λ k b. c.loop-i.invariant.below k b ∙ is k (omega arith); above = c.loop-i.invariant.above } in
     sixteen_of (check_weights a.shape a.slot a.l) c.loop-i.i c.loop-i.row (e ∙ sym (length_checks a.shape M a.slot h a.l)) F

@@ -24,7 +24,7 @@ weights_of-weights-requires c = (c.requires.0, c.requires.1)
 pub terms_of-terms-requires : goal.terms_of-terms-requires
 terms_of-terms-requires c =
     let a = c.args in
-    (c.power_table-powers.ensures, c.log_table-logs.ensures, c.requires.0, c.requires.1, omega (arith, c.requires.2, checks_most a.shape a.slot, r_most a.shape c.requires.0.placed))
+    (c.requires.0, c.requires.1, omega (arith, c.requires.2, checks_most a.shape a.slot, r_most a.shape c.requires.0.placed))
 
 pub loop-l-init : goal.loop-l-init
 loop-l-init c = let a = c.args in every_none (passes_check a.shape a.slot a.symbols.now)
@@ -32,8 +32,6 @@ loop-l-init c = let a = c.args in every_none (passes_check a.shape a.slot a.symb
 pub check_weights-row-requires : goal.check_weights-row-requires
 check_weights-row-requires c =
     let a = c.args in (
-      c.power_table-powers.ensures,
-      c.log_table-logs.ensures,
       c.requires.0,
       c.requires.1,
       omega (arith, c.requires.2, c.loop-l-test.true),
@@ -50,8 +48,6 @@ pub dot-requires : goal.dot-requires
 dot-requires c =
     let a = c.args in
     let n = mates_number_is a.shape a.slot c.requires.1 in (
-      c.power_table-powers.ensures,
-      c.log_table-logs.ensures,
       omega (arith, c.mates_number-number.ensures.1, ap length c.check_weights-row.ensures ∙ length_sixteen (check_weights a.shape a.slot c.loop-l.l)),
       omega (arith, c.mates_number-number.ensures.0, n, c.requires.3),
     )

@@ -9,7 +9,7 @@ fill_run-requires c =
     let a = c.args in
     let x = c.point_of-x in
     let b = point_below a.shape a.place in
-    (c.requires.0, c.requires.1, omega (arith, x.ensures, b), omega (arith, c.scale_at-scale.ensures, scale_below a.shape x.result (omega (arith, x.ensures, b))))
+    (omega (arith, x.ensures, b), omega (arith, c.scale_at-scale.ensures, scale_below a.shape x.result (omega (arith, x.ensures, b))))
 
 pub returns : goal.returns
 returns c =

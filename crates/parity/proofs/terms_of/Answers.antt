@@ -13,19 +13,19 @@ use Rattle.parity.proofs.terms_of.Goals.{After-mates_number-number}
 
 -- there are as many as the slot has mates
 all : (c : After-mates_number-number) → c.mates_number-number.result ≡ length (mates c.args.shape c.args.slot)
-all c = c.mates_number-number.ensures.0 ∙ mates_number_is c.args.shape c.args.slot c.requires.3
+all c = c.mates_number-number.ensures.0 ∙ mates_number_is c.args.shape c.args.slot c.requires.1
 
 pub mate_of-mate-requires : goal.mate_of-mate-requires
 mate_of-mate-requires c =
-    (c.requires.2.placed, c.requires.3, omega (arith, all (goal.at.mate_of-mate-requires c).After-mates_number-number, c.loop-i-test.true))
+    (c.requires.0.placed, c.requires.1, omega (arith, all (goal.at.mate_of-mate-requires c).After-mates_number-number, c.loop-i-test.true))
 
 pub put_terms-requires : goal.put_terms-requires
 put_terms-requires c =
-    (c.requires.0, c.requires.1, c.requires.2.placed, slot_room c.args.shape c.requires.2.placed c.mate_of-mate.result c.mate_of-mate.ensures.1)
+    (c.requires.0.placed, slot_room c.args.shape c.requires.0.placed c.mate_of-mate.result c.mate_of-mate.ensures.1)
 
 pub put_terms-requires-2 : goal.put_terms-requires-2
 put_terms-requires-2 c =
-    (c.requires.0, c.requires.1, c.requires.2.placed, slot_room c.args.shape c.requires.2.placed c.args.slot c.requires.3)
+    (c.requires.0.placed, slot_room c.args.shape c.requires.0.placed c.args.slot c.requires.1)
 
 pub loop-i-preserved : goal.loop-i-preserved
 loop-i-preserved c =
@@ -46,7 +46,7 @@ returns c =
     let m = c.mates_number-number.ensures.1 in
     let h = λ (l : ℕ). term a.shape l (point a.shape a.slot) in
     let ys = c.put_terms-2.new.terms in
-    let U = l.invariant c.requires.4 in
+    let U = l.invariant c.requires.2 in
     let e : l.i ≡ length (mates a.shape a.slot) = omega (arith, all (goal.at.returns c).After-mates_number-number, c.loop-i-test.false) in
-    upto_done a.shape a.slot a.n c.requires.4 l.i l.terms (splice 256 (256 + a.n - 256) l.terms ys) e (omega (arith, m)) U
-    (terms_part h 256 (256 + a.n - 256) a.n l.terms ys (omega arith) (omega (arith, U.size, c.requires.4)) c.put_terms-2.ensures)
+    upto_done a.shape a.slot a.n c.requires.2 l.i l.terms (splice 256 (256 + a.n - 256) l.terms ys) e (omega (arith, m)) U
+    (terms_part h 256 (256 + a.n - 256) a.n l.terms ys (omega arith) (omega (arith, U.size, c.requires.2)) c.put_terms-2.ensures)

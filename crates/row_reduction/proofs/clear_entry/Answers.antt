@@ -10,4 +10,4 @@ returns c =
     let v = c.mul-c in
     let r = c.add_row in
     reduced_add a.field a.n a.rows.now r.new.work a.a a.b v.result (a.a * 16) (a.b * 16) refl refl c.if-own.false
-    (rw v.ensures ((laws a.field).times_below _ _)) c.requires.6 r.ensures c.requires.5
+    (rw v.ensures ((laws a.field).times_below _ _)) c.requires.4 r.ensures c.requires.3

@@ -17,7 +17,7 @@ pub solve_within-requires : goal.solve_within-requires
 solve_within-requires c =
     let h = c.args.shape in
     let e = c.mother_of-mother.ensures in
-    rw e (mother_whole h c.requires.0.plain, c.requires.0.one, c.requires.2, c.requires.4, omega (arith, c.requires.6, mother_guarantee h c.requires.0.plain), c.requires.7, c.requires.8)
+    rw e (mother_whole h c.requires.0.plain, c.requires.0.one, c.requires.2, c.requires.4, omega (arith, c.requires.6, mother_guarantee h c.requires.0.plain))
 
 -- the verdict on the word of whole groups
 long : (c : After-solve_within) → let a = c.args in let w = c.solve_within in
@@ -42,8 +42,6 @@ shorten-requires c =
     let w = c.solve_within in
     let f = found (mother a.shape) a.word.now a.marks.now a.row.now w.new.message (number_of w.result) (ap number_of c.in_ok-solve_within.was)
     (long (goal.at.shorten-requires c).After-solve_within) in (
-      c.requires.7,
-      c.requires.8,
       c.requires.0.plain,
       c.requires.1,
       fits_message (mother a.shape) a.word.now a.marks.now w.new.message f,

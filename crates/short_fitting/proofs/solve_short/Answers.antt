@@ -52,8 +52,6 @@ solve_long-requires c =
       n ∙ ap (λ m. a.shape.k + m) e,
       c.requires.3,
       omega (arith, c.requires.4, extended_lost a.shape P a.marks.now _ W.marks),
-      c.requires.5,
-      c.requires.6,
     )
 
 pub returns : goal.returns

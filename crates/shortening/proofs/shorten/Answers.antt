@@ -15,12 +15,12 @@ use Rattle.shortening.proofs.shorten.Goals.{After-move_base}
 pub move_base-requires : goal.move_base-requires
 move_base-requires c =
     let a = c.args in
-    let L = c.requires.2 in
-    let A = message_is (mother a.shape) a.row.now c.requires.4 in (
+    let L = c.requires.0 in
+    let A = message_is (mother a.shape) a.row.now c.requires.2 in (
       L.family.placed,
-      mother_length a.shape L c.requires.3 a.row.now A,
+      mother_length a.shape L c.requires.1 a.row.now A,
       yes_true (all_below (q a.shape.field) a.row.now) A.below,
-      constant_below a.shape L c.requires.3 c.constant_of-c.result c.constant_of-c.ensures,
+      constant_below a.shape L c.requires.1 c.constant_of-c.result c.constant_of-c.ensures,
     )
 
 -- the parts of the moved row
@@ -29,20 +29,18 @@ fit : (c : After-move_base) → let a = c.args in let z = c.move_base.new.row in
 fit c =
     let a = c.args in
     let M = c.move_base in
-    parts_fit a.shape c.requires.2 c.requires.3 a.row.now M.new.row a.message.now c.requires.4 M.ensures.size c.requires.6
+    parts_fit a.shape c.requires.0 c.requires.1 a.row.now M.new.row a.message.now c.requires.2 M.ensures.size c.requires.4
 
 pub last_symbols-last-requires : goal.last_symbols-last-requires
 last_symbols-last-requires c =
     let a = c.args in
     let M = c.move_base in
-    let A = message_is (mother a.shape) a.row.now c.requires.4 in
+    let A = message_is (mother a.shape) a.row.now c.requires.2 in
     let e = c.constant_of-c in (
-      c.requires.0,
-      c.requires.1,
-      c.requires.2.family.placed,
+      c.requires.0.family.placed,
       (fit (goal.at.last_symbols-last-requires c).After-move_base).0,
       M.ensures.below,
-      first_roots a.shape c.requires.2 c.requires.3 a.row.now M.new.row e.result A e.ensures M.ensures c.requires.5,
+      first_roots a.shape c.requires.0 c.requires.1 a.row.now M.new.row e.result A e.ensures M.ensures c.requires.3,
     )
 
 pub overflow_sub-lead : goal.overflow_sub-lead
@@ -62,11 +60,11 @@ pub returns : goal.returns
 returns c =
     let a = c.args in
     let M = c.move_base in
-    let A = message_is (mother a.shape) a.row.now c.requires.4 in
+    let A = message_is (mother a.shape) a.row.now c.requires.2 in
     let e = c.constant_of-c in
     let B = c.last_symbols-last in
     let C = c.copy in
     let E = c.copy-2 in
     let d = length M.new.row - a.shape.r in
-    shortens_done a.shape c.requires.2 c.requires.3 a.row.now M.new.row e.result A e.ensures M.ensures B.result a.message.now
-    C.new.target E.new.target B.ensures c.requires.6 d (length a.message.now - d) (fit (goal.at.returns c).After-move_base).1 (ap (λ n. n - d) c.requires.6) C.ensures E.ensures
+    shortens_done a.shape c.requires.0 c.requires.1 a.row.now M.new.row e.result A e.ensures M.ensures B.result a.message.now
+    C.new.target E.new.target B.ensures c.requires.4 d (length a.message.now - d) (fit (goal.at.returns c).After-move_base).1 (ap (λ n. n - d) c.requires.4) C.ensures E.ensures

@@ -17,4 +17,4 @@ slice_bounds-solve_mended-end-2 c = sym (lent c.args.shape c.requires.0)
 pub solve_mended-verdict-requires : goal.solve_mended-verdict-requires
 solve_mended-verdict-requires c =
     let l = lent c.args.shape c.requires.0 in
-    (c.requires.0, c.requires.1.received, c.requires.1.message, c.requires.2, c.requires.3, l, l)
+    (c.requires.0, c.requires.1.received, c.requires.1.message, l, l)

@@ -15,15 +15,15 @@ use Rattle.strip_parity.proofs.check_rows.Goals as goal
 use Rattle.strip_parity.proofs.check_rows.Goals.{After-weights_of-weights}
 
 pub weights_of-weights-requires : goal.weights_of-weights-requires
-weights_of-weights-requires c = (c.requires.2, c.requires.3)
+weights_of-weights-requires c = (c.requires.0, c.requires.1)
 
 -- there are at most sixteen checks
 few : (c : After-weights_of-weights) → c.args.n ≤ 16
 few c =
-    omega (arith, c.requires.4, checks_most c.args.shape c.args.slot, r_most c.args.shape c.requires.2.placed)
+    omega (arith, c.requires.2, checks_most c.args.shape c.args.slot, r_most c.args.shape c.requires.0.placed)
 
 pub terms_of-terms-requires : goal.terms_of-terms-requires
-terms_of-terms-requires c = (c.requires.0, c.requires.1, c.requires.2, c.requires.3, few (goal.at.terms_of-terms-requires c).After-weights_of-weights)
+terms_of-terms-requires c = (c.requires.0, c.requires.1, few (goal.at.terms_of-terms-requires c).After-weights_of-weights)
 
 pub loop-c-init : goal.loop-c-init
 loop-c-init c = let a = c.args in upto_none a.shape a.slot _ refl
@@ -33,11 +33,9 @@ check_weights-row-requires c =
     let a = c.args in (
       c.requires.0,
       c.requires.1,
-      c.requires.2,
-      c.requires.3,
-      omega (arith, c.requires.4, c.loop-c-test.true),
+      omega (arith, c.requires.2, c.loop-c-test.true),
       c.weights_of-weights.ensures,
-      subst (λ n. Terms a.shape a.slot n c.terms_of-terms.result) c.requires.4 c.terms_of-terms.ensures,
+      subst (λ n. Terms a.shape a.slot n c.terms_of-terms.result) c.requires.2 c.terms_of-terms.ensures,
     )
 
 pub overflow_mul-c : goal.overflow_mul-c

@@ -22,7 +22,7 @@ few c =
 pub reduce_for-requires : goal.reduce_for-requires
 reduce_for-requires c =
     let C = c.check_rows-rows.ensures in
-    (c.power_table-powers.ensures, c.log_table-logs.ensures, few (goal.at.reduce_for-requires c).After-mates_number-number, omega (arith, few (goal.at.reduce_for-requires c).After-mates_number-number, C.size), C.below)
+    (few (goal.at.reduce_for-requires c).After-mates_number-number, omega (arith, few (goal.at.reduce_for-requires c).After-mates_number-number, C.size), C.below)
 
 pub annulled-requires : goal.annulled-requires
 annulled-requires c =

@@ -57,11 +57,8 @@ member_point-y-requires c =
     let t = c.size_of-size in
     let o = c.member_of-member in
     let w = c.width_of-width in
-    let b = steps_below t.result o.result c.loop-i.i (omega (arith, o.ensures.1, t.ensures)) (omega (arith, (few (goal.at.member_point-y-requires c).At-loop-i).0)) in (
-      c.power_table-powers.ensures,
-      worked_below c.args.shape P 0 c.mate_steps-steps.result w.result (groups_least c.args.shape P)
-          (omega (arith, c.mate_steps-steps.ensures, b, t.ensures)) w.ensures,
-    )
+    let b = steps_below t.result o.result c.loop-i.i (omega (arith, o.ensures.1, t.ensures)) (omega (arith, (few (goal.at.member_point-y-requires c).At-loop-i).0)) in (worked_below c.args.shape P 0 c.mate_steps-steps.result w.result (groups_least c.args.shape P)
+    (omega (arith, c.mate_steps-steps.ensures, b, t.ensures)) w.ensures)
 
 pub bounds-weights-i : goal.bounds-weights-i
 bounds-weights-i c =
