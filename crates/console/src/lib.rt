@@ -25,6 +25,7 @@ pub fn read_input<R: Read>(reader: &mut R, buf: &mut [u8]) -> Result<usize, Read
     ensures front { IfOk result (λ len. IfSome (R.remaining reader.old) (λ xs. take len buf.new ≡ take (length buf.new) xs)) }
 {
     let mut len: usize = 0;
+    // no place is counted: each turn adds what one read gave
     while len < buf.len() {
         let Ok(n) = reader.read(&mut buf[len..]) else {
             return Err(ReadFailed { len });

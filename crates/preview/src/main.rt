@@ -10,6 +10,7 @@ use std::io::{Read, Write};
 use std::process::ExitCode;
 
 // The program's exit status: 0, or 2 where reading or writing fails. With 0 the preview of the input's first 1,032 bytes is written.
+// One function for this and the report would take the text's length and the call as parameters, and be no plainer.
 pub fn preview_program<R: Read, W: Write, E: Write>(
     input: &mut R,
     output: &mut W,

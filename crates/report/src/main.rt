@@ -9,6 +9,7 @@ use std::io::{Read, Write};
 use std::process::ExitCode;
 
 // The program's exit status: 0, or 2 where reading or writing fails. With 0 the report of the input's first 1,032 bytes is written.
+// One function for this and the preview would take the text's length and the call as parameters, and be no plainer.
 pub fn report_program<R: Read, W: Write, E: Write>(
     input: &mut R,
     output: &mut W,
