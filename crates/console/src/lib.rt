@@ -55,7 +55,7 @@ pub fn unread<E: Write>(errors: &mut E, name: &[u8]) -> u8
 }
 
 // Writes the first n bytes of a text on standard output: the exit status 0, or 2 where that fails.
-// The number stands beside the text, since it is what a call answered and this is the one place that tests it.
+// The number stands beside the text, since it is what a call answered; with one past the text's end nothing is written.
 pub fn write_output<W: Write, E: Write>(
     output: &mut W,
     errors: &mut E,
