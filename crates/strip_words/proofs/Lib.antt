@@ -1,4 +1,3 @@
-pub mod Chains
 pub mod Refusal
 pub mod Columns
 pub mod Sizes

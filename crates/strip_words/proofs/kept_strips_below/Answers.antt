@@ -3,7 +3,7 @@ use Rattle.std.proofs.lemmas.Iterator.{cases_from_all, YieldsList-from_range}
 use Rattle.std.specs.List.{range_with_len}
 use Rattle.algebra.specs.Sequence.{every}
 use Rattle.strip_words.specs.Strips.{strip_below, kept_strips_below}
-use Rattle.strip_words.proofs.Chains.{all_decided, list_range}
+use Rattle.questions.proofs.Chains.{all_decided, list_range}
 use Rattle.strip_words.proofs.kept_strips_below.Goals as goal
 
 pub returns : goal.returns
