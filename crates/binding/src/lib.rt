@@ -2,22 +2,18 @@
 #![tactic(auto)]
 
 ghost use Rattle.std.specs.Prelude.{◌≡◌, length};
-ghost use Rattle.refusal.specs.Refusal.{number_of, answer_of};
+ghost use Rattle.refusal.specs.Refusal.{number_of};
 ghost use Rattle.binding.specs.Pack.{unpacked, code_row};
 ghost use Rattle.binding.specs.Fill.{WeightsFill};
 
-use code::Code;
+use code::{Answer, Code};
 use refusal::{Refusal, require};
 
 // An answer in one number: the refusal high, the value low.
-#[tactic(auto, unfolding(crate::specs::Pack::unpacked))]
-pub fn packed(answer: Result<u32, Refusal>) -> u64
-    ensures { unpacked result ≡ answer_of answer }
+pub fn packed(answer: Answer) -> u64
+    ensures { unpacked result ≡ answer }
 {
-    match answer {
-        Ok(value) => value as u64,
-        Err(refusal) => refusal.number() as u64 * 0x1_0000_0000,
-    }
+    answer.refusal as u64 * 0x1_0000_0000 + answer.value as u64
 }
 
 // Writes the five numbers of a code.

@@ -23,7 +23,7 @@ ghost use Rattle.sheet_binding.specs.Sheet.{ReadFills};
 
 use binding::packed;
 use code::Code;
-use refusal::number_of;
+use refusal::{answer_of, number_of};
 
 // Encodes a message.
 #[unsafe(no_mangle)]
@@ -116,7 +116,7 @@ pub extern "C" fn latsefidy_repair(
 ) -> u64
     ensures { RepairSays (code_refusal (code_of field r n k wiring)) (single (code_of field r n k wiring)) slot mates.now (unpacked result) }
 {
-    packed(repair::repair(
+    packed(answer_of(repair::repair(
         Code {
             field,
             r,
@@ -126,7 +126,7 @@ pub extern "C" fn latsefidy_repair(
         },
         slot,
         mates,
-    ))
+    )))
 }
 
 // Rebuilds a strip from its mates' strips.
@@ -170,7 +170,7 @@ pub extern "C" fn latsefidy_view(
 ) -> u64
     ensures { Answers (view_refusal (code_refusal (code_of field r n k wiring)) (single (code_of field r n k wiring)) slot word.now) (first_slot (code_of field r n k wiring) slot) (unpacked result) }
 {
-    packed(view::view_first(
+    packed(answer_of(view::view_first(
         Code {
             field,
             r,
@@ -180,7 +180,7 @@ pub extern "C" fn latsefidy_view(
         },
         slot,
         word,
-    ))
+    )))
 }
 
 // Repairs each group with exactly one loss, and answers how many.
@@ -196,7 +196,7 @@ pub extern "C" fn latsefidy_local_pass(
 ) -> u64
     ensures { PassSays (code_refusal (code_of field r n k wiring)) (single (code_of field r n k wiring)) word.old marks.old (unpacked result) word.new marks.new }
 {
-    packed(pass::local_pass(
+    packed(answer_of(pass::local_pass(
         Code {
             field,
             r,
@@ -206,7 +206,7 @@ pub extern "C" fn latsefidy_local_pass(
         },
         word,
         marks,
-    ))
+    )))
 }
 
 // Decodes the kept symbols of a word.
@@ -254,7 +254,7 @@ pub extern "C" fn latsefidy_decode_near(
 ) -> u64
     ensures { NearSays (code_refusal (code_of field r n k wiring)) (single (code_of field r n k wiring)) word.now marks.now (unpacked result) message.old message.new work.old work.new }
 {
-    packed(decode_near::decode_near(
+    packed(answer_of(decode_near::decode_near(
         Code {
             field,
             r,
@@ -266,7 +266,7 @@ pub extern "C" fn latsefidy_decode_near(
         marks,
         message,
         work,
-    ))
+    )))
 }
 
 // Grades a stripe by its marks.
@@ -282,7 +282,7 @@ pub extern "C" fn latsefidy_grade(
 ) -> u64
     ensures { GradeSays (code_refusal (code_of field r n k wiring)) (single (code_of field r n k wiring)) marks.now (unpacked result) work.old work.new }
 {
-    packed(grading::grade(
+    packed(answer_of(grading::grade(
         Code {
             field,
             r,
@@ -292,7 +292,7 @@ pub extern "C" fn latsefidy_grade(
         },
         marks,
         work,
-    ))
+    )))
 }
 
 // Writes what would follow the loss of a slot.
@@ -403,7 +403,7 @@ pub extern "C" fn latsefidy_write_sheet(
 pub extern "C" fn latsefidy_report(input: &[u8], text: &mut [u8]) -> u64
     ensures { ReportSays (take 1032 input.now) text.old text.new (unpacked result) }
 {
-    packed(reporting::report_front(input, text))
+    packed(answer_of(reporting::report_front(input, text)))
 }
 
 // Writes the preview of a sheet, of which at most the first 1,032 bytes are judged.
@@ -411,5 +411,5 @@ pub extern "C" fn latsefidy_report(input: &[u8], text: &mut [u8]) -> u64
 pub extern "C" fn latsefidy_preview_sheet(input: &[u8], text: &mut [u8]) -> u64
     ensures { SheetPreviewSays (take 1032 input.now) text.old text.new (unpacked result) }
 {
-    packed(preview_sheet::preview_front(input, text))
+    packed(answer_of(preview_sheet::preview_front(input, text)))
 }

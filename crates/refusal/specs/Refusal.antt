@@ -5,7 +5,7 @@
 use Rattle.std.specs.Prelude.{ℕ, Result, Ok, Err}
 use Rattle.code.specs.declared.Answer.{Answer}
 use Rattle.refusal.specs.declared.Refusal.{Refusal}
-use Rattle.refusal.specs.declared.Refusal.TheVariants.{Field, Locality, Length, Dimension, Buffers, Symbol, Slot, Mark, Foreign, Undecided, SheetLength, FirstWord, WordCount, MiddleWord, LastWord, Wiring, View}
+use Rattle.refusal.specs.declared.Refusal.TheVariants.{Field, Locality, Length, Dimension, Buffers, Symbol, Slot, Mark, Foreign, Undecided, SheetLength, FirstWord, WordCount, MiddleWord, LastWord, Wiring, View, Other}
 
 abbrev pub number : Refusal → ℕ
 number Field = 1
@@ -25,6 +25,7 @@ number MiddleWord = 14
 number LastWord = 15
 number Wiring = 17
 number View = 18
+number (Other o) = o.number
 
 abbrev pub number_of : {A : Type 0} → Result A Refusal → ℕ
 number_of (Ok x) = 0

@@ -78,7 +78,7 @@ fn sheet_asked(sheet: &[u8]) -> Result<(), Refusal>
     require(sheet.len() % 4 == 0, Refusal::SheetLength)?;
     require(sheet.len() / 4 >= 1, Refusal::FirstWord)?;
     let w = words::word_at(sheet, 0);
-    require(words::kind_of(w) == Some(Kind::Code), Refusal::FirstWord)?;
+    require(words::named_kind(w) == Some(Kind::Code), Refusal::FirstWord)?;
     let code = words::word_code(w);
     acceptance::accepted(code)?;
     body_asked(code, sheet)

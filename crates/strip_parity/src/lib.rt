@@ -74,6 +74,8 @@ fn columns_pass(shape: Shape, slot: u32, n: usize, strips: &[u8], sums: &mut [u8
 }
 
 // Whether some codeword has the symbols of every column at the slot's mates; n is the number of checks.
+// It stays apart from its caller, so that a repair with no check has no room for strips on its stack.
+#[inline(never)]
 pub fn columns_held(shape: Shape, slot: u32, n: usize, strips: &[u8], l: usize) -> bool
     requires { Decodable shape × (slot < shape.n) × (n ≡ checks shape slot) × (1 ≤ l) × (l ≤ 4096) × (length strips.now ≡ length (mates shape slot) * l) × (all_below (q shape.field) strips.now ≡ true) }
     ensures { result ≡ columns_held shape slot l strips.now }

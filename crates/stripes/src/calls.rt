@@ -2,7 +2,7 @@
 // record's after it.
 use crate::code_of;
 use binding::packed;
-use refusal::number_of;
+use refusal::{answer_of, number_of};
 use vectors::{Call, Record, pair};
 
 // Room for the longest buffer.
@@ -64,7 +64,7 @@ pub fn run_weights(record: &Record) -> bool {
 pub fn run_repair(record: &Record) -> bool {
     reads(
         record,
-        |call, a| packed(repair::repair(code_of(call), call.slot, a)),
+        |call, a| packed(answer_of(repair::repair(code_of(call), call.slot, a))),
     )
 }
 
@@ -81,7 +81,7 @@ pub fn run_rebuild(record: &Record) -> bool {
 pub fn run_view(record: &Record) -> bool {
     reads(
         record,
-        |call, a| packed(view::view_first(code_of(call), call.slot, a)),
+        |call, a| packed(answer_of(view::view_first(code_of(call), call.slot, a))),
     )
 }
 
@@ -90,7 +90,7 @@ pub fn run_pass(record: &Record) -> bool {
     let mut room_b = [0u8; ROOM];
     let a = record.buffer(0).fill(&mut room_a[..]);
     let b = record.buffer(1).fill(&mut room_b[..]);
-    let answer = packed(pass::local_pass(code_of(record.call), a, b));
+    let answer = packed(answer_of(pass::local_pass(code_of(record.call), a, b)));
     record.agrees(answer, &[a, b])
 }
 
@@ -104,14 +104,14 @@ pub fn run_decode(record: &Record) -> bool {
 pub fn run_near(record: &Record) -> bool {
     decodes(
         record,
-        |call, a, b, c, d| packed(decode_near::decode_near(code_of(call), a, b, c, d)),
+        |call, a, b, c, d| packed(answer_of(decode_near::decode_near(code_of(call), a, b, c, d))),
     )
 }
 
 pub fn run_grade(record: &Record) -> bool {
     writes(
         record,
-        |call, a, b| packed(grading::grade(code_of(call), a, b)),
+        |call, a, b| packed(answer_of(grading::grade(code_of(call), a, b))),
     )
 }
 

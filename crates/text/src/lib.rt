@@ -42,7 +42,7 @@ impl<'a> Page<'a> {
     }
 
     // Puts one digit.
-    fn put_digit(&mut self, d: u32)
+    pub fn put_digit(&mut self, d: u32)
         requires { (self.old.end < length self.old.text.now) × (d < 10) }
         ensures { Wrote ((48 + d) ∷ []) self.old self.new }
     {
@@ -106,7 +106,7 @@ impl<'a> Page<'a> {
     }
 
     // Puts the line of a code.
-    fn put_code(&mut self, code: Code)
+    pub fn put_code(&mut self, code: Code)
         requires { (self.old.end + 25 ≤ length self.old.text.now) × (code.field < 1000) × (code.r < 1000) × (code.n < 1000) × (code.k < 1000) }
         ensures { Wrote (code_line code) self.old self.new × (self.new.end ≤ self.old.end + 25) }
     {
@@ -129,7 +129,7 @@ impl<'a> Page<'a> {
     }
 
     // Puts the line of the losses.
-    fn put_losses(&mut self, lost: u32, sure: u32, grade: u32, first: u32)
+    pub fn put_losses(&mut self, lost: u32, sure: u32, grade: u32, first: u32)
         requires { (self.old.end + 38 ≤ length self.old.text.now) × (lost < 1000) × (sure < 1000) × (grade < 1000) × (first < 1000) }
         ensures { Wrote (losses_line lost sure grade first) self.old self.new × (self.new.end ≤ self.old.end + 38) }
     {
@@ -139,7 +139,7 @@ impl<'a> Page<'a> {
     }
 
     // Puts the symbols of a message, a space before each.
-    fn put_symbols(&mut self, symbols: &[u8])
+    pub fn put_symbols(&mut self, symbols: &[u8])
         requires { self.old.end + 4 * length symbols.now ≤ length self.old.text.now }
         ensures { Wrote (all_spaced symbols.now) self.old self.new × (self.new.end ≤ self.old.end + 4 * length symbols.now) }
     {
@@ -149,7 +149,7 @@ impl<'a> Page<'a> {
     }
 
     // Puts the line of a message.
-    fn put_message(&mut self, message: &[u8])
+    pub fn put_message(&mut self, message: &[u8])
         requires { self.old.end + 8 + 4 * length message.now ≤ length self.old.text.now }
         ensures { Wrote (message_line message.now) self.old self.new × (self.new.end ≤ self.old.end + 8 + 4 * length message.now) }
     {

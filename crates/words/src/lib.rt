@@ -56,11 +56,18 @@ pub fn put_word(sheet: &mut [u8], i: usize, w: u32)
     sheet[at..at + 4].copy_from_slice(&w.to_be_bytes());
 }
 
-// The kind of a word, by its top four bits.
-pub fn kind_of(w: u32) -> Option<Kind>
+// The number of a word's kind: its top four bits.
+pub fn kind_of(w: u32) -> u32
+    ensures { result ≡ kind w }
+{
+    w / 0x1000_0000
+}
+
+// The kind of a word, where its number names one.
+pub fn named_kind(w: u32) -> Option<Kind>
     ensures { KindSays (kind w) result }
 {
-    Kind::try_from(w / 0x1000_0000).ok()
+    Kind::try_from(kind_of(w)).ok()
 }
 
 // A word of a kind with all its other bits 0.
@@ -118,7 +125,7 @@ pub fn slot_fits(p: u32, w: u32) -> bool
     requires { p < 256 }
     ensures { result ≡ slot_fits p w }
 {
-    let Some(kind) = kind_of(w) else {
+    let Some(kind) = named_kind(w) else {
         return false;
     };
     match kind {
@@ -132,7 +139,7 @@ pub fn slot_fits(p: u32, w: u32) -> bool
 pub fn word_symbol(w: u32) -> u8
     ensures { result ≡ word_symbol w }
 {
-    if kind_of(w) == Some(Kind::Lost) {
+    if named_kind(w) == Some(Kind::Lost) {
         0
     } else {
         (w % 256) as u8
@@ -143,5 +150,5 @@ pub fn word_symbol(w: u32) -> u8
 pub fn word_mark(w: u32) -> u8
     ensures { result ≡ word_mark w }
 {
-    u8::from(kind_of(w) == Some(Kind::Lost))
+    u8::from(named_kind(w) == Some(Kind::Lost))
 }

@@ -1,4 +1,5 @@
+use mathlib.Core.Path.{◌∙◌}
 use Rattle.latsefidy.proofs.latsefidy_decode_near.Goals as goal
 
 pub returns : goal.returns
-returns c = rw c.packed.ensures c.decode_near.ensures
+returns c = rw (c.packed.ensures ∙ c.answer_of.ensures) c.decode_near.ensures

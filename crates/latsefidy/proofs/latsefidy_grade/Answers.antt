@@ -1,4 +1,5 @@
+use mathlib.Core.Path.{◌∙◌}
 use Rattle.latsefidy.proofs.latsefidy_grade.Goals as goal
 
 pub returns : goal.returns
-returns c = rw c.packed.ensures c.grade.ensures
+returns c = rw (c.packed.ensures ∙ c.answer_of.ensures) c.grade.ensures

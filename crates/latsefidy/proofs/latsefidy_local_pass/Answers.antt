@@ -1,4 +1,5 @@
+use mathlib.Core.Path.{◌∙◌}
 use Rattle.latsefidy.proofs.latsefidy_local_pass.Goals as goal
 
 pub returns : goal.returns
-returns c = rw c.packed.ensures c.local_pass.ensures
+returns c = rw (c.packed.ensures ∙ c.answer_of.ensures) c.local_pass.ensures

@@ -1,4 +1,5 @@
+use mathlib.Core.Path.{◌∙◌}
 use Rattle.latsefidy.proofs.latsefidy_repair.Goals as goal
 
 pub returns : goal.returns
-returns c = rw c.packed.ensures c.repair.ensures
+returns c = rw (c.packed.ensures ∙ c.answer_of.ensures) c.repair.ensures

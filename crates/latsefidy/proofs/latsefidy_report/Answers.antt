@@ -1,4 +1,5 @@
+use mathlib.Core.Path.{◌∙◌}
 use Rattle.latsefidy.proofs.latsefidy_report.Goals as goal
 
 pub returns : goal.returns
-returns c = rw c.packed.ensures c.report_front.ensures
+returns c = rw (c.packed.ensures ∙ c.answer_of.ensures) c.report_front.ensures

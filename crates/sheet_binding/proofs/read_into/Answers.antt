@@ -22,7 +22,7 @@ pub returns-in_err-read : goal.returns-in_err-read
 unfolding ask
 returns-in_err-read c =
     let l : length c.args.code.now ≡ 5 = grind (arith, nat_tests) in
-    read_err _ _ _ _ _ _ _ _ l c.in_err-read.ensures (search rules)
+    read_err _ _ _ _ _ _ _ c.in_err-read.field-0.0 l c.in_err-read.ensures (search rules)
 
 pub returns : goal.returns
 unfolding ask

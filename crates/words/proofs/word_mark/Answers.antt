@@ -11,4 +11,4 @@ byte false = refl
 
 pub returns : goal.returns
 unfolding word_mark
-returns c = rw (sym (lost_test (kind c.args.w) c.kind_of.result c.kind_of.ensures) ∙ sym c.eq.ensures) (c.from.ensures ∙ byte c.eq.result)
+returns c = rw (sym (lost_test (kind c.args.w) c.named_kind.result c.named_kind.ensures) ∙ sym c.eq.ensures) (c.from.ensures ∙ byte c.eq.result)
