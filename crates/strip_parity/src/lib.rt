@@ -73,9 +73,17 @@ fn columns_pass(shape: Shape, slot: u32, n: usize, strips: &[u8], sums: &mut [u8
     annulled(shape.field, n, &rows, number, strips, sums)
 }
 
-// Whether some codeword has the symbols of every column at the slot's mates; n is the number of checks.
-// It stays apart from its caller, so that a repair with no check has no room for strips on its stack.
+// What `columns_held` tells, by sums of strips. It stays apart from its caller, so that a repair has no room for strips on its stack.
 #[inline(never)]
+fn columns_summed(shape: Shape, slot: u32, n: usize, strips: &[u8], l: usize) -> bool
+    requires { Decodable shape × (slot < shape.n) × (n ≡ checks shape slot) × (1 ≤ l) × (l ≤ 4096) × (length strips.now ≡ length (mates shape slot) * l) × (all_below (q shape.field) strips.now ≡ true) }
+    ensures { result ≡ columns_held shape slot l strips.now }
+{
+    let mut sums = [0u8; 4096];
+    columns_pass(shape, slot, n, strips, &mut sums[..l])
+}
+
+// Whether some codeword has the symbols of every column at the slot's mates; n is the number of checks.
 pub fn columns_held(shape: Shape, slot: u32, n: usize, strips: &[u8], l: usize) -> bool
     requires { Decodable shape × (slot < shape.n) × (n ≡ checks shape slot) × (1 ≤ l) × (l ≤ 4096) × (length strips.now ≡ length (mates shape slot) * l) × (all_below (q shape.field) strips.now ≡ true) }
     ensures { result ≡ columns_held shape slot l strips.now }
@@ -83,6 +91,5 @@ pub fn columns_held(shape: Shape, slot: u32, n: usize, strips: &[u8], l: usize) 
     if l == 1 {
         return parity::pass_checks(shape, slot, n, strips);
     }
-    let mut sums = [0u8; 4096];
-    columns_pass(shape, slot, n, strips, &mut sums[..l])
+    columns_summed(shape, slot, n, strips, l)
 }
